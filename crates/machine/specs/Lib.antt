@@ -1,0 +1,8 @@
+pub mod Value
+pub mod Operator
+pub mod Match
+pub mod Bind
+pub mod Guard
+pub mod Clauses
+pub mod Place
+pub mod Work
