@@ -42,3 +42,8 @@ module _ {A : Type 0} where
   unfoldable pub joined : List (List A) → List A
   joined [] = []
   joined (x ∷ xs) = x ++ joined xs
+
+  -- every element has the property
+  unfoldable pub All : (A → Type 0) → List A → Type 0
+  All P [] = Unit {0}
+  All P (x ∷ xs) = P x × All P xs

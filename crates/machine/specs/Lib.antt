@@ -6,3 +6,4 @@ pub mod Guard
 pub mod Clauses
 pub mod Place
 pub mod Work
+pub mod Opened

@@ -1,0 +1,15 @@
+pub mod Answers
+pub mod State
+pub mod Flight
+pub mod Load
+pub mod Commands
+pub mod Sound
+pub mod Independent
+pub mod Depends
+pub mod Rollback
+pub mod Text
+pub mod Line
+pub mod Listing
+pub mod Replies
+pub mod Opened
+pub mod Bench
