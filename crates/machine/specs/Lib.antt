@@ -7,3 +7,4 @@ pub mod Clauses
 pub mod Place
 pub mod Work
 pub mod Opened
+pub mod Cases

@@ -1,6 +1,6 @@
 -- What a control is about to do, and what it becomes, on rows of words. Assumes nothing: these are definitions.
 use Prim.Native.Nat.{ℕ}
-use mathlib.Core.Bool.{Bool, true, false}
+use mathlib.Core.Bool.{Bool, true, false, cond}
 use mathlib.Core.Option.{Option, none, some}
 use mathlib.Core.List.{List, [], _∷_}
 use lib.Dec.{eqb}
@@ -69,15 +69,16 @@ sendWork whole (target then (v then ts)) = sendTo whole target v
 unfoldable pub workAt : (functions : Terms) (whole : Term) → Term → Work
 workAt functions whole (int x) = stuck
 workAt functions whole (node tag n k ts) =
-    elim (eqb tag tagCall) [ true ↦ seqOr whole (operateOn k ts) | false ↦
-    elim (eqb tag tagApply) [ true ↦ seqOr whole (bodyWith ts (functionOf functions k)) | false ↦
-    elim (eqb tag tagCase) [ true ↦ seqOr whole (caseGives ts) | false ↦
-    elim (eqb tag tagLet) [ true ↦ seqOr whole (letGives k ts) | false ↦
-    elim (eqb tag tagReceive) [ true ↦ toReceive (λ v. nextSome whole (firstClause (termOf v) ts)) | false ↦
-    elim (eqb tag tagSpawn) [ true ↦ toSpawn (words (node tagApply n k ts)) (λ p. next whole (pid p)) | false ↦
-    elim (eqb tag tagSend) [ true ↦ sendWork whole ts | false ↦
-    elim (eqb tag tagSelf) [ true ↦ toSelf (λ p. next whole (pid p)) | false ↦
-    elim (eqb tag tagCheck) [ true ↦ toCheck k (next whole (atom k)) | false ↦ stuck ] ] ] ] ] ] ] ] ]
+    cond (eqb tag tagCall) (seqOr whole (operateOn k ts))
+    (cond (eqb tag tagApply) (seqOr whole (bodyWith ts (functionOf functions k)))
+    (cond (eqb tag tagCase) (seqOr whole (caseGives ts))
+    (cond (eqb tag tagLet) (seqOr whole (letGives k ts))
+    (cond (eqb tag tagReceive) (toReceive (λ v. nextSome whole (firstClause (termOf v) ts)))
+    (cond (eqb tag tagSpawn) (toSpawn (words (node tagApply n k ts)) (λ p. next whole (pid p)))
+    (cond (eqb tag tagSend) (sendWork whole ts)
+    (cond (eqb tag tagSelf) (toSelf (λ p. next whole (pid p)))
+    (cond (eqb tag tagCheck) (toCheck k (next whole (atom k)))
+    stuck))))))))
 
 unfoldable pub workOf : (functions : Terms) → Term → Work
 workOf functions t = elim (isValue t) [ true ↦ finished | false ↦ workAt functions t (working t) ]

@@ -13,3 +13,4 @@ pub mod Listing
 pub mod Replies
 pub mod Opened
 pub mod Bench
+pub mod Cases

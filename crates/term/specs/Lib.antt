@@ -6,3 +6,4 @@ pub mod Shape
 pub mod Binding
 pub mod Module
 pub mod Control
+pub mod Cases

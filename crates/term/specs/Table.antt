@@ -30,24 +30,24 @@ noRow = row 0 0 0 alike
 unfoldable pub table : List Row
 table =
     noRow
-    ∷ row 0 0 64 alike         -- 1 variable
-    ∷ row 0 0 256 alike        -- 2 atom
-    ∷ row 0 0 1 alike          -- 3 integer
-    ∷ row 0 0 16 alike         -- 4 pid
-    ∷ row 0 0 1 alike          -- 5 nil
-    ∷ row 2 2 1 alike          -- 6 cons
-    ∷ row 0 8 1 alike          -- 7 tuple
-    ∷ row 2 2 9 alike          -- 8 call
-    ∷ row 0 8 65536 alike      -- 9 apply
-    ∷ row 1 8 1 ofCase         -- 10 case
-    ∷ row 2 2 64 alike         -- 11 let
-    ∷ row 1 8 1 ofReceive      -- 12 receive
-    ∷ row 0 8 65536 alike      -- 13 spawn
-    ∷ row 2 2 1 alike          -- 14 send
-    ∷ row 0 0 1 alike          -- 15 self
-    ∷ row 0 0 256 alike        -- 16 check
-    ∷ row 3 3 1 ofClause       -- 17 clause
-    ∷ row 0 8 1 body           -- 18 function
+    ∷ row 0 0 64 alike  -- 1 variable
+    ∷ row 0 0 256 alike  -- 2 atom
+    ∷ row 0 0 1 alike  -- 3 integer
+    ∷ row 0 0 16 alike  -- 4 pid
+    ∷ row 0 0 1 alike  -- 5 nil
+    ∷ row 2 2 1 alike  -- 6 cons
+    ∷ row 0 8 1 alike  -- 7 tuple
+    ∷ row 2 2 9 alike  -- 8 call
+    ∷ row 0 8 65536 alike  -- 9 apply
+    ∷ row 1 8 1 ofCase  -- 10 case
+    ∷ row 2 2 64 alike  -- 11 let
+    ∷ row 1 8 1 ofReceive  -- 12 receive
+    ∷ row 0 8 65536 alike  -- 13 spawn
+    ∷ row 2 2 1 alike  -- 14 send
+    ∷ row 0 0 1 alike  -- 15 self
+    ∷ row 0 0 256 alike  -- 16 check
+    ∷ row 3 3 1 ofClause  -- 17 clause
+    ∷ row 0 8 1 body  -- 18 function
     ∷ []
 
 unfoldable pub rowOf : ℕ → Row
