@@ -1,0 +1,5 @@
+-- Reversible systems: what they are, and what holds of all of them.
+pub mod Paths
+pub mod Laws
+pub mod Causal
+pub mod Exec

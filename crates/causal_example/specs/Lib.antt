@@ -1,0 +1,2 @@
+-- A small reversible system.
+pub mod Shelf

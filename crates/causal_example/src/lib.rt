@@ -1,0 +1,1 @@
+// Definitions and theorems only: a small system that keeps the laws of the crate causal.
