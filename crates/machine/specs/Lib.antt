@@ -7,4 +7,5 @@ pub mod Clauses
 pub mod Place
 pub mod Work
 pub mod Opened
+pub mod Laws
 pub mod Cases
