@@ -3,6 +3,7 @@ pub mod State
 pub mod Flight
 pub mod Load
 pub mod Commands
+pub mod Rules
 pub mod Sound
 pub mod Independent
 pub mod Depends

@@ -1,0 +1,5 @@
+pub mod Views
+pub mod Messages
+pub mod Histories
+pub mod Frame
+pub mod Questions
