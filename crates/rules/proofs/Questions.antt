@@ -19,6 +19,7 @@ use Rattle.rules.specs.Independent.{Apart, actor, mailbox, ifRec, receiv
 use Rattle.rules.proofs.Views.{made-alone, alone-send, alone-rec, alone-spawn}
 use Rattle.rules.proofs.Messages.{Any, here, there, any-append, any-left, any-more, any-middle, any-less, any-one, Named, find-named, named-found, pick-is}
 use Rattle.rules.proofs.Histories.{letter-older, letter-which, sent-below, below-not-same, left-older, taken-older, taken-more, taken-which}
+use Rattle.rules.proofs.Deeds.{targetOf, target, unspawning, spawning}
 use Rattle.rules.proofs.Frame.{Turned, same, grown, shrunk, turned, keep-process, keep-queue, no-process, process-of, in-pool, not-in-pool, history-of}
 
 -- ---- messages in flight
@@ -67,17 +68,6 @@ pub flight-of : (st : State) (s k t : ℕ) {value : List ℕ} → sent (historyA
 flight-of st s k t out live fresh = record { out = out; up = flies-of st s k t live fresh }
 
 -- ---- histories
--- the place that a step sends to
-unfoldable pub targetOf : Option Letter → Option ℕ
-targetOf none = none
-targetOf (some (letter t v)) = some t
-
-unfoldable pub target : Deed → Option ℕ
-target (makes p kind) = targetOf (asSend kind)
-target (undoes p count kind) = none
-target (delivers s k t) = none
-target (undelivers t) = none
-
 -- a send stands as long as it is not undone
 pub sent-stays : {s : State} {d : Deed} {x : ℕ} (k : ℕ) {h h′ : List Entry} {l : Letter} → Turned s d x h h′ → ¬ Unsends x k d → sent h k ≡ some l → sent h′ k ≡ some l
 unfolding sent Unsends
@@ -155,24 +145,10 @@ actor-live (sched _ _) e = none-not-some e
 actor-live (unsched _ _ _ _) e = none-not-some e
 
 pub unspawns-live : {s : State} {d : Deed} {w : Move} {x : ℕ} → Does s d w → unspawns d ≡ some x → inPool s x ≡ true
-unfolding unspawns asSpawn
-unspawns-live (forward _ _ _ _) e = none-not-some e
-unspawns-live (backward _ (undo-alone a)) e = none-not-some (sym (alone-spawn a) ∙ e)
-unspawns-live (backward _ (undo-send _)) e = none-not-some e
-unspawns-live (backward _ (undo-receive _)) e = none-not-some e
-unspawns-live {s} {x} (backward _ (undo-spawn i _ _)) e = in-pool s x (ap (s .processes) (sym (some-injective e)) ∙ i)
-unspawns-live (sched _ _) e = none-not-some e
-unspawns-live (unsched _ _ _ _) e = none-not-some e
+unspawns-live {s} {x} a e = in-pool s x (unspawning a e .new)
 
 pub spawns-free : {s : State} {d : Deed} {w : Move} {x : ℕ} → Does s d w → spawnsInto d ≡ some x → inPool s x ≡ false
-unfolding spawnsInto asSpawn
-spawns-free (forward _ (alone j) _ _) e = none-not-some (sym (alone-spawn (made-alone j)) ∙ e)
-spawns-free (forward _ (by-send _ _) _ _) e = none-not-some e
-spawns-free (forward _ (by-receive _ _) _ _) e = none-not-some e
-spawns-free {s} (forward _ (by-spawn _ _ n) _ _) e = ap (inPool s) (sym (some-injective e)) ∙ n
-spawns-free (backward _ _) e = none-not-some e
-spawns-free (sched _ _) e = none-not-some e
-spawns-free (unsched _ _ _ _) e = none-not-some e
+spawns-free a e = spawning a e .free
 
 live-put : {p x : ℕ} (a : Process) (f : ℕ → Option Process) → Dec (p ≡ x) → isProcess (f x) ≡ true → isProcess (put p (some a) f x) ≡ true
 unfolding isProcess
@@ -193,14 +169,7 @@ stays-live x (sched _ _) i f = i
 stays-live x (unsched _ _ _ _) i f = i
 
 pub spawns-live : {s : State} {d : Deed} {w : Move} {x : ℕ} → Does s d w → spawnsInto d ≡ some x → inPool (apply w s) x ≡ true
-unfolding apply setBeside setProcess setQueue inPool isProcess spawnsInto asSpawn
-spawns-live (forward _ (alone j) _ _) e = none-not-some (sym (alone-spawn (made-alone j)) ∙ e)
-spawns-live (forward _ (by-send _ _) _ _) e = none-not-some e
-spawns-live (forward _ (by-receive _ _) _ _) e = none-not-some e
-spawns-live {x} (forward _ (by-spawn {f} _ _ n) _ _) e = rw (put-same f _ _ x (some-injective e)) refl
-spawns-live (backward _ _) e = none-not-some e
-spawns-live (sched _ _) e = none-not-some e
-spawns-live (unsched _ _ _ _) e = none-not-some e
+spawns-live {s} {w} {x} a e = in-pool (apply w s) x (spawning a e .new)
 
 -- ---- arrivals
 -- d delivers to t a message with the property
