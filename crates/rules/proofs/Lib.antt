@@ -5,3 +5,5 @@ pub mod Frame
 pub mod Deeds
 pub mod Questions
 pub mod Square
+pub mod SoundFacts
+pub mod Undo
