@@ -7,7 +7,7 @@ use mathlib.Core.List.{List, [], _∷_, _++_}
 use native.Mathlib.Decide.{ℕ-discrete}
 use native.Mathlib.Omega.{arith}
 use lib.Dec.{eqb}
-use Rattle.lists.specs.Lists.{upTo, sameList, any, butLast}
+use Rattle.lists.specs.Lists.{upTo, sameList, any, keep, butLast}
 use Rattle.lists.proofs.Tests.{true-not-false, eqb-true, eqb-same, and-left, and-right, and-of, or-true, or-left, or-right, or-false-left, or-false-right, or-false}
 
 pub same-list : (xs ys : List ℕ) → sameList xs ys ≡ true → xs ≡ ys
@@ -66,3 +66,17 @@ unfolding upTo any
 none-of-below test zero f = refl
 none-of-below test (suc n) f =
     any-append test (upTo n) (n ∷ []) ∙ or-false (none-of-below test n (λ k h. f k (omega arith))) (or-false (f n (omega arith)) refl)
+
+-- what is kept, element by element
+module _ {A : Type 0} (test : A → Bool) where
+  pub keep-nil : keep test [] ≡ []
+  unfolding keep
+  keep-nil = refl
+
+  pub keep-true : (x : A) (xs : List A) → test x ≡ true → keep test (x ∷ xs) ≡ x ∷ keep test xs
+  unfolding keep
+  keep-true x xs e = rw (e, keep) refl
+
+  pub keep-false : (x : A) (xs : List A) → test x ≡ false → keep test (x ∷ xs) ≡ keep test xs
+  unfolding keep
+  keep-false x xs e = rw (e, keep) refl

@@ -7,3 +7,4 @@ pub mod Questions
 pub mod Square
 pub mod SoundFacts
 pub mod Undo
+pub mod Arrival
