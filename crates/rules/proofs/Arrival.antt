@@ -178,8 +178,7 @@ any-come {P} (e ∷ h) queue f = go (asRec (e .kind)) refl (λ q. any-come h q)
         let j = ih ((a ++ (m ∷ d)) ++ y) g in
         let v = any-move {P = P} a m (d ++ y) (taken h) in
         let n = after-before a m d y in
-        let k : (a ++ (d ++ y)) ++ (m ∷ taken h) ≡ queue ++ taken (e ∷ h) = ap (λ z. z ++ (m ∷ taken h)) (sym (q ∙ append-assoc a d y)) ∙ ap (λ z. queue ++ z) (sym (taken-rec e h i)) in
-        (
+        let k : (a ++ (d ++ y)) ++ (m ∷ taken h) ≡ queue ++ taken (e ∷ h) = ap (λ z. z ++ (m ∷ taken h)) (sym (q ∙ append-assoc a d y)) ∙ ap (λ z. queue ++ z) (sym (taken-rec e h i)) in (
           λ x. subst (Any P) k (v .0 (subst (λ z. Any P (z ++ taken h)) n (j .0 (subst (Any P) c x)))),
           λ x. subst (Any P) (sym c) (j .1 (subst (λ z. Any P (z ++ taken h)) (sym n) (v .1 (subst (Any P) (sym k) x)))),
         )
@@ -256,8 +255,8 @@ arrivals-come (e ∷ h) queue f o = go (asRec (e .kind)) refl (λ q. arrivals-co
         let it : shownIn [] (queuesShown h (a ++ (m ∷ d))) ≡ come h (a ++ (m ∷ d)) = ih (a ++ (m ∷ d)) before (once-part (a ++ (m ∷ d)) y (taken h) known) in
         ap (shownIn []) (queues-rec e h queue i) ∙ shown-last [] (queuesShown h (a ++ (m ∷ d))) queue ∙ ap (λ z. z ++ fresh z queue) it ∙ ap (λ z. come h (a ++ (m ∷ d)) ++ fresh (come h (a ++ (m ∷ d))) z) q
         ∙ ap (λ z. come h (a ++ (m ∷ d)) ++ z) (
-            fresh-old (come h (a ++ (m ∷ d))) (a ++ d) y (λ n x. any-come h (a ++ (m ∷ d)) before .1 (any-left (taken h) (is-like (a ++ (m ∷ d)) (any-more a m d x))))
-            ∙ fresh-new (come h (a ++ (m ∷ d))) y (λ n x z. once-apart (come h (a ++ (m ∷ d))) n all-once z x))
+        fresh-old (come h (a ++ (m ∷ d))) (a ++ d) y (λ n x. any-come h (a ++ (m ∷ d)) before .1 (any-left (taken h) (is-like (a ++ (m ∷ d)) (any-more a m d x))))
+        ∙ fresh-new (come h (a ++ (m ∷ d))) y (λ n x z. once-apart (come h (a ++ (m ∷ d))) n all-once z x))
         ∙ sym (c ∙ more)
 
 pub arrivals-are : (s : State) (q : ℕ) → Flows (historyAt s q) (s .queues q) → Once (s .queues q ++ taken (historyAt s q)) → arrivals s q ≡ come (historyAt s q) (s .queues q)
