@@ -7,3 +7,6 @@ pub mod Questions
 pub mod Square
 pub mod SoundFacts
 pub mod Undo
+pub mod Plans
+pub mod RunSound
+pub mod RunComplete
