@@ -10,3 +10,4 @@ pub mod Undo
 pub mod Plans
 pub mod RunSound
 pub mod RunComplete
+pub mod Positions
