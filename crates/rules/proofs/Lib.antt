@@ -11,3 +11,5 @@ pub mod Plans
 pub mod RunSound
 pub mod RunComplete
 pub mod Positions
+pub mod SoundMail
+pub mod SoundSpawns
