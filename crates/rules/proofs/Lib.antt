@@ -1,3 +1,4 @@
+pub mod Arrival
 pub mod Views
 pub mod Messages
 pub mod Histories
@@ -7,4 +8,9 @@ pub mod Questions
 pub mod Square
 pub mod SoundFacts
 pub mod Undo
-pub mod Arrival
+pub mod Plans
+pub mod RunSound
+pub mod RunComplete
+pub mod Positions
+pub mod SoundMail
+pub mod SoundSpawns

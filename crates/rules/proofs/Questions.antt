@@ -90,7 +90,7 @@ sent-was {d} {x} {t} k {h} {v = v} (grown kind c i u _ _) e = go (letter-which (
     go (inr j) = inr (rw u (ap targetOf (j .0)))
 sent-was k {h} {h′} (shrunk kind c i u) e = inl (rw i (letter-older (asSend kind) (sends h′) k (sent h′ k) (inr (λ z. below-not-same (sent-below h′ k e) (sym z))) ∙ e))
 
-no-rec : (kind : Kind) (x : ℕ) → Apart (ifRec x (asRec kind)) (some x) → asRec kind ≡ none
+pub no-rec : (kind : Kind) (x : ℕ) → Apart (ifRec x (asRec kind)) (some x) → asRec kind ≡ none
 unfolding Apart ifRec
 no-rec kind x a = go (asRec kind) refl a
   where
