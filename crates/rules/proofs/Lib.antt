@@ -1,4 +1,5 @@
 pub mod Arrival
+pub mod Event
 pub mod Views
 pub mod Messages
 pub mod Histories
