@@ -13,3 +13,5 @@ pub mod RunComplete
 pub mod Positions
 pub mod SoundMail
 pub mod SoundSpawns
+pub mod SoundControls
+pub mod SoundStep
