@@ -15,3 +15,5 @@ pub mod SoundMail
 pub mod SoundSpawns
 pub mod SoundControls
 pub mod SoundStep
+pub mod SoundLoad
+pub mod Knows
