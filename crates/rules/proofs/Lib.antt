@@ -15,3 +15,7 @@ pub mod RunComplete
 pub mod Positions
 pub mod SoundMail
 pub mod SoundSpawns
+pub mod SoundControls
+pub mod SoundStep
+pub mod SoundLoad
+pub mod Knows
