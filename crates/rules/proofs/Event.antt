@@ -189,13 +189,13 @@ module _ {s : State} {d : Deed} {w : Move} (sound : Sound s) (after : Sound (app
 last-length : {a : List Message} (b : List Message) (m : Message) → a ≡ b ++ (m ∷ []) → length a ≡ suc (length b)
 last-length b m e = omega (arith, ap length e, length-append b (m ∷ []))
 
-suffix-back : {s : State} {d : Deed} {x : ℕ} {h h′ : List Entry} → Turned s d x h h′ → Backward d → Suffix h′ h
+pub suffix-back : {s : State} {d : Deed} {x : ℕ} {h h′ : List Entry} → Turned s d x h h′ → Backward d → Suffix h′ h
 unfolding Backward
 suffix-back (same i) b = suffix-top (sym i)
 suffix-back (grown kind c i u _ _) b = absurd (rw u at b)
 suffix-back (shrunk kind c i u) b = rw i (older whole)
 
-suffix-forth : {s : State} {d : Deed} {x : ℕ} {h h′ : List Entry} → Turned s d x h h′ → Forward d → Suffix h h′
+pub suffix-forth : {s : State} {d : Deed} {x : ℕ} {h h′ : List Entry} → Turned s d x h h′ → Forward d → Suffix h h′
 unfolding Forward
 suffix-forth (same i) b = suffix-top i
 suffix-forth (grown kind c i u _ _) b = rw i (older whole)

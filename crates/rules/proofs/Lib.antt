@@ -1,5 +1,6 @@
 pub mod Arrival
 pub mod Event
+pub mod EventSound
 pub mod Views
 pub mod Messages
 pub mod Histories
