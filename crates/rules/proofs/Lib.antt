@@ -1,6 +1,7 @@
 pub mod Arrival
 pub mod Event
 pub mod EventSound
+pub mod Removal
 pub mod Views
 pub mod Messages
 pub mod Histories
