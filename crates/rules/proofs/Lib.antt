@@ -2,6 +2,8 @@ pub mod Arrival
 pub mod Event
 pub mod EventSound
 pub mod Removal
+pub mod Cut
+pub mod Search
 pub mod Views
 pub mod Messages
 pub mod Histories

@@ -1,12 +1,12 @@
 -- Rollback. 01: "rollback p t takes p's newest check entry t and undoes it with all events that depend on it." Assumes nothing: these are
 -- definitions.
-use Prim.Native.Nat.{ℕ, zero, suc, pred}
+use Prim.Native.Nat.{ℕ, zero, suc}
 use mathlib.Core.Path.{_≡_}
 use mathlib.Core.Logic.{_↔_}
-use mathlib.Core.Bool.{Bool, true, false, not, _&&_}
+use mathlib.Core.Bool.{Bool, true, false, cond, not, _&&_}
 use mathlib.Core.Option.{Option, none, some}
 use mathlib.Core.List.{List, [], _∷_, _++_, map}
-use lib.Dec.{eqb}
+use lib.Dec.{eqb, ltb}
 use lib.ListN.{length}
 use Rattle.lists.specs.Lists.{any, keep, joined, upTo}
 use Rattle.rules.specs.Answers.{done, noProcess, held, noCheckpoint}
@@ -48,17 +48,25 @@ pub data Rollback (s : State) (p t : ℕ) : ℕ → ℕ → State → Type 0 whe
   no-check : inPool s p ≡ true → newestCheck t (historyAt s p) ≡ none → Rollback s p t noCheckpoint 0 s
   no-process : inPool s p ≡ false → Rollback s p t noProcess 0 s
 
--- The same, computed: the set by growing it, and undos inside the set as long as there is one. That this is the answer which `Rollback`
--- allows, and the only one, is for the theorem `rollback-is` to show.
+-- The same, computed. What depends on an event of a line are later events too, so the set takes the newest events of each line: it is a
+-- cut, which says how many events of each line stay. That this gives the answer which `Rollback` allows, and the only one, is the theorem
+-- `rollback-is` of RollbackDemands.
+
+abbrev pub Cut : Type 0
+Cut = Line → ℕ
+
+unfoldable pub sameLine : Line → Line → Bool
+sameLine (entriesOf p) (entriesOf q) = eqb p q
+sameLine (entriesOf p) (deliveriesTo q) = false
+sameLine (deliveriesTo p) (entriesOf q) = false
+sameLine (deliveriesTo p) (deliveriesTo q) = eqb p q
+
+-- the cut with so many events of one line
+unfoldable pub cutTo : Line → ℕ → Cut → Cut
+cutTo x n cut y = cond (sameLine x y) n (cut y)
 
 pub data Event : Type 0 where
   event : Line → ℕ → Event
-
-unfoldable pub sameEvent : Event → Event → Bool
-sameEvent (event (entriesOf p) i) (event (entriesOf q) j) = eqb p q && eqb i j
-sameEvent (event (entriesOf p) i) (event (deliveriesTo q) j) = false
-sameEvent (event (deliveriesTo p) i) (event (entriesOf q) j) = false
-sameEvent (event (deliveriesTo p) i) (event (deliveriesTo q) j) = eqb p q && eqb i j
 
 unfoldable pub eventsOn : State → Line → List Event
 eventsOn s x = map (event x) (upTo (level s x))
@@ -72,61 +80,58 @@ events s = joined (map (eventsAt s) (upTo (s .sizes .places)))
 unfoldable pub eventDepends : State → Event → Event → Bool
 eventDepends s (event x i) (event y j) = dependsAtOnce s x i y j
 
--- the events outside a set that depend at once on one inside
-unfoldable pub reaching : State → List Event → List Event
-reaching s set = keep (λ e. not (any (sameEvent e) set) && any (eventDepends s e) set) (events s)
+unfoldable pub stays : Cut → Event → Bool
+stays cut (event x i) = ltb i (cut x)
 
--- the set grown until nothing reaches it; there are no more rounds than events
-unfoldable pub grown : State → ℕ → List Event → List Event
-grown s zero set = set
-grown s (suc rounds) set = elim (reaching s set) [ [] ↦ set | e ∷ es ↦ grown s rounds (set ++ (e ∷ es)) ]
+-- the events that a cut takes off
+unfoldable pub takenOff : State → Cut → List Event
+takenOff s cut = keep (λ e. not (stays cut e)) (events s)
 
-unfoldable pub dependents : State → Event → List Event
-dependents s e = grown s (length (events s)) (e ∷ [])
+-- the events that it keeps, though they depend at once on one that it takes off
+unfoldable pub torn : State → Cut → List Event
+torn s cut = keep (λ e. stays cut e && any (eventDepends s e) (takenOff s cut)) (events s)
 
--- the event that an undo of a line takes off: its newest
+-- the cut lowered to the first such event until there is none; there are no more rounds than events
+unfoldable pub settled : State → ℕ → Cut → Cut
+settled s zero cut = cut
+settled s (suc rounds) cut = elim (torn s cut) [ [] ↦ cut | e ∷ es ↦ elim e [ event x i ↦ settled s rounds (cutTo x i cut) ] ]
+
+-- the cut that takes off an event with all events that depend on it
+unfoldable pub cutBefore : State → Event → Cut
+cutBefore s (event x i) = settled s (length (events s)) (cutTo x i (level s))
+
+-- the command that takes off the newest event of a line
 unfoldable pub undoOf : Line → Command
 undoOf (entriesOf p) = back p
 undoOf (deliveriesTo q) = undeliver q
 
-unfoldable pub newestOn : State → Line → Event
-newestOn s x = event x (pred (level s x))
+-- the state after that, where the event is to go and the command is accepted
+unfoldable pub undoAbove : State → Cut → Line → Option State
+undoAbove s cut x = elim (ltb (cut x) (level s x)) [ true ↦ runState (undoOf x) s | false ↦ none ]
 
--- an undo of the line, where it is accepted and its event in the set
-unfoldable pub undoIn : State → List Event → Line → Option State
-undoIn s set x = elim (any (sameEvent (newestOn s x)) set) [ true ↦ runState (undoOf x) s | false ↦ none ]
-
-pub data Undone : Type 0 where
-  undoneAs : State → List Event → Undone
-
--- the first undo inside the set along some lines, with what is left of the set
-unfoldable pub undoAlong : State → List Event → List Line → Option Undone
-undoAlong s set [] = none
-undoAlong s set (x ∷ lines) = elim (undoIn s set x) [
-  | some s′ ↦ some (undoneAs s′ (keep (λ e. not (sameEvent e (newestOn s x))) set))
-  | none ↦ undoAlong s set lines
-]
+-- the first such undo along some lines
+unfoldable pub undoAlong : State → Cut → List Line → Option State
+undoAlong s cut [] = none
+undoAlong s cut (x ∷ lines) = elim (undoAbove s cut x) [ some after ↦ some after | none ↦ undoAlong s cut lines ]
 
 unfoldable pub linesIn : State → List Line
 linesIn s = map entriesOf (upTo (s .sizes .places)) ++ map deliveriesTo (upTo (s .sizes .places))
 
--- all of the set undone, in at most so many undos
-unfoldable pub undoAll : ℕ → State → List Event → Option State
-undoAll zero s set = elim set [ [] ↦ some s | e ∷ es ↦ none ]
-undoAll (suc n) s set = elim set [
-  | [] ↦ some s
-  | e ∷ es ↦ elim (undoAlong s (e ∷ es) (linesIn s)) [ none ↦ none | some (undoneAs s′ set′) ↦ undoAll n s′ set′ ]
-]
+-- so many such undos
+unfoldable pub undoAll : ℕ → State → Cut → Option State
+undoAll zero s cut = some s
+undoAll (suc n) s cut = elim (undoAlong s cut (linesIn s)) [ none ↦ none | some after ↦ undoAll n after cut ]
 
 pub data RolledBack : Type 0 where
   refused : (number : ℕ) → RolledBack
   rolled : (count : ℕ) → State → RolledBack
 
-unfoldable pub rollbackSet : State → List Event → RolledBack
-rollbackSet s set = elim (undoAll (length set) s set) [ none ↦ refused held | some end ↦ rolled (length set) end ]
+-- what a cut takes off is undone, or nothing
+unfoldable pub undoTo : State → Cut → RolledBack
+undoTo s cut = elim (undoAll (length (takenOff s cut)) s cut) [ none ↦ refused held | some end ↦ rolled (length (takenOff s cut)) end ]
 
 unfoldable pub rollback : (p t : ℕ) → State → RolledBack
 rollback p t s = elim (inPool s p) [
   | false ↦ refused noProcess
-  | true ↦ elim (newestCheck t (historyAt s p)) [ none ↦ refused noCheckpoint | some i ↦ rollbackSet s (dependents s (event (entriesOf p) i)) ]
+  | true ↦ elim (newestCheck t (historyAt s p)) [ none ↦ refused noCheckpoint | some i ↦ undoTo s (cutBefore s (event (entriesOf p) i)) ]
 ]
