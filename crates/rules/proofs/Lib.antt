@@ -4,6 +4,7 @@ pub mod EventSound
 pub mod Removal
 pub mod Cut
 pub mod Search
+pub mod Rollback
 pub mod Views
 pub mod Messages
 pub mod Histories

@@ -126,6 +126,19 @@ pub data RolledBack : Type 0 where
   refused : (number : ℕ) → RolledBack
   rolled : (count : ℕ) → State → RolledBack
 
+-- an answer's number, the count that it adds and the state after
+unfoldable pub numberOf : RolledBack → ℕ
+numberOf (refused number) = number
+numberOf (rolled count end) = done
+
+unfoldable pub countOf : RolledBack → ℕ
+countOf (refused number) = 0
+countOf (rolled count end) = count
+
+unfoldable pub endOf : State → RolledBack → State
+endOf s (refused number) = s
+endOf s (rolled count end) = end
+
 -- what a cut takes off is undone, or nothing
 unfoldable pub undoTo : State → Cut → RolledBack
 undoTo s cut = elim (undoAll (length (takenOff s cut)) s cut) [ none ↦ refused held | some end ↦ rolled (length (takenOff s cut)) end ]
