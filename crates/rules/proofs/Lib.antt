@@ -17,3 +17,4 @@ pub mod SoundControls
 pub mod SoundStep
 pub mod SoundLoad
 pub mod Knows
+pub mod Learn
