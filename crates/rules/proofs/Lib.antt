@@ -18,3 +18,4 @@ pub mod SoundStep
 pub mod SoundLoad
 pub mod Knows
 pub mod Learn
+pub mod Replay
