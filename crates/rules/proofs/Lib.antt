@@ -19,3 +19,4 @@ pub mod SoundLoad
 pub mod Knows
 pub mod Learn
 pub mod Replay
+pub mod Amount

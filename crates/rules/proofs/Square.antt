@@ -48,14 +48,14 @@ receiver-apart (undoes p count kind) o a = apart-if-rec p _ o a
 receiver-apart (delivers s k t) o a = tt
 receiver-apart (undelivers t) o a = tt
 
-actor-apart : (d : Deed) (o : Option ℕ) → Apart (actsAt d) o → Apart (actor d) o
+pub actor-apart : (d : Deed) (o : Option ℕ) → Apart (actsAt d) o → Apart (actor d) o
 unfolding Apart actor actsAt
 actor-apart (makes p kind) o a = a
 actor-apart (undoes p count kind) o a = a
 actor-apart (delivers s k t) o a = tt
 actor-apart (undelivers t) o a = tt
 
-mailbox-apart : (d : Deed) (o : Option ℕ) → Apart (actsAt d) o → Apart (mailbox d) o
+pub mailbox-apart : (d : Deed) (o : Option ℕ) → Apart (actsAt d) o → Apart (mailbox d) o
 unfolding Apart mailbox actsAt
 mailbox-apart (makes p kind) o a = tt
 mailbox-apart (undoes p count kind) o a = tt
