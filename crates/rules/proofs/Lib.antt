@@ -20,3 +20,4 @@ pub mod Knows
 pub mod Learn
 pub mod Replay
 pub mod Amount
+pub mod Reached
