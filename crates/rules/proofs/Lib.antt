@@ -21,3 +21,6 @@ pub mod Learn
 pub mod Replay
 pub mod Amount
 pub mod Reached
+pub mod Corner
+pub mod Steps
+pub mod Causal
