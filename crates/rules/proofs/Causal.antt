@@ -24,12 +24,13 @@ use Rattle.rules.proofs.Frame.{keep-process, history-of}
 use Rattle.rules.proofs.Questions.{live-spawns, actor-live}
 use Rattle.rules.proofs.Square.{independent-sym, apart-sym}
 use Rattle.rules.proofs.RunSound.{run-sound}
-use Rattle.rules.proofs.Undo.{Undo, Undid, undo-forward, undid-forward, undo-deliver, undid-deliver, undos-independent, Backward}
+use Rattle.rules.proofs.Undo.{Undo, Undid, undo-forward, undid-forward, undo-deliver, undid-deliver, Backward}
+use Rattle.rules.proofs.Knows.{calm}
 use Rattle.rules.proofs.Amount.{amount-grows}
 use Rattle.rules.proofs.SoundLoad.{load-history}
-use Rattle.rules.proofs.Reached.{Reached, reached-after, reached-square, making-reverse, reversed, reverse-opposite}
+use Rattle.rules.proofs.Reached.{Reached, reached-after, making-reverse, reversed, reverse-opposite}
 use Rattle.rules.proofs.Corner.{same-undo, forward-unspawns, undid-actor, undoer, undo-actor, corner}
-use Rattle.rules.proofs.Steps.{Taken, taken, accepted-runs, does-runs, does-step, undo-runs, goes-back, goes-forward}
+use Rattle.rules.proofs.Steps.{Taken, taken, does-runs, undo-runs, goes-back, goes-forward, commuting, same-deed, taken-apart, taken-independent, undos-apart}
 
 abbrev Runs : State → Command → State → Type 0
 Runs = Step runState
@@ -62,37 +63,16 @@ symmetric i = record {
   apart = independent-sym (i .apart);
 }
 
--- two accepted plans of one command are one
-same-deed : {d d′ : Deed} {w w′ : Move} → accept d w ≡ accept d′ w′ → d ≡ d′
-same-deed e = cc
-
-same-move : {d d′ : Deed} {w w′ : Move} → accept d w ≡ accept d′ w′ → w ≡ w′
-same-move e = cc
-
 commute : {s a b : State} {t u : Command} → Reached s → Runs s t a → Runs s u b → t ≢ u → Independent s t u → (d : State) × Runs a u d × Runs b t d
-commute {s} {a} {b} {t} {u} r p q n i =
+commute r p q n i =
     let k = took r p in
     let l = took r q in
-    let apart = subst₂ IndependentDeeds (same-deed (sym (i .accepted) ∙ k .ran)) (same-deed (sym (i .accepted′) ∙ l .ran)) (i .apart) in
-    let (after, before, one) = reached-square r (k .does) (l .does) apart in (
-      apply (l .move) (apply (k .move) s),
-      record { accepted = ap (runState u) (k .gives) ∙ does-step u after (l .is) },
-      record { accepted = ap (runState t) (l .gives) ∙ does-step t before (k .is) ∙ ap some (sym one) },
-    )
+    let apart = taken-apart k l i in
+    let c = commuting k l apart (calm (r .laws) (r .sound) (r .learnt) (k .does) (l .does) apart) in
+    (c .end, record { accepted = c .then-u }, record { accepted = c .then-t })
 
 backward-independent : {s a b : State} {t u : Command} → Reached s → Runs s t a → Runs s u b → isForward t ≡ false → isForward u ≡ false → t ≢ u → Independent s t u
-backward-independent r p q f g n =
-    let k = took r p in
-    let l = took r q in
-    record {
-      deed = k .deed;
-      deed′ = l .deed;
-      move = k .move;
-      move′ = l .move;
-      accepted = k .ran;
-      accepted′ = l .ran;
-      apart = undos-independent (k .does) (l .does) (goes-back (k .deed) (ap isForward (k .is) ∙ f)) (goes-back (l .deed) (ap isForward (l .is) ∙ g)) (λ e. n (sym (k .is) ∙ e ∙ l .is));
-    }
+backward-independent r p q f g n = let k = took r p in let l = took r q in taken-independent k l (undos-apart k l f g n)
 
 -- ---- the corner
 -- the deed of the reverse of a forward deed
@@ -153,15 +133,7 @@ cornered {s} {a} {b} {t} {u} r p q o f g i =
     let at-after : Independent (apply (k .move) s) (reverse s t) u = subst (λ x. Independent x (reverse s t) u) (k .gives) i in
     let in-deeds : Independent (apply (k .move) s) (reverse s (commandOf (k .deed))) (commandOf (l .deed)) =
     subst₂ (λ x y. Independent (apply (k .move) s) (reverse s x) y) (sym (k .is)) (sym (l .is)) at-after in
-    record {
-      deed = k .deed;
-      deed′ = l .deed;
-      move = k .move;
-      move′ = l .move;
-      accepted = k .ran;
-      accepted′ = l .ran;
-      apart = cornered-deeds r (k .does) (goes-forward (k .deed) (ap isForward (k .is) ∙ f)) (l .does) (goes-back (l .deed) (ap isForward (l .is) ∙ g)) in-deeds;
-    }
+    taken-independent k l (cornered-deeds r (k .does) (goes-forward (k .deed) (ap isForward (k .is) ∙ f)) (l .does) (goes-back (l .deed) (ap isForward (l .is) ∙ g)) in-deeds)
 
 -- ---- at the load nothing is undone
 module _ (module′ : List ℕ) (sizes : Sizes) where

@@ -24,3 +24,4 @@ pub mod Reached
 pub mod Corner
 pub mod Steps
 pub mod Causal
+pub mod ExactlyOnce

@@ -57,11 +57,6 @@ module _ (module′ : List ℕ) (sizes : Sizes) (laws : WorkLaws module′ (size
   unfolding loaded
   reached-load good passes = record { laws = laws; sound = loaded-sound module′ sizes good passes laws; learnt = load-learnt; told = load-told }
 
--- ---- independent commands commute
-pub reached-square : {s : State} {d e : Deed} {w u : Move} → Reached s → Does s d w → Does s e u → IndependentDeeds d e
-    → Does (apply w s) e u × Does (apply u s) d w × (apply u (apply w s) ≡ apply w (apply u s))
-reached-square r a b f = square a b f (calm (r .laws) (r .sound) (r .learnt) a b f)
-
 -- ---- reverses
 pub makes-forward : (p : ℕ) (kind : Kind) → isForward (makingOf p kind) ≡ true
 unfolding isForward makingOf
@@ -94,12 +89,25 @@ reverse-opposite {s} (backward {p} {kind} i _) = rw (history-of s p i) (makes-fo
 reverse-opposite (sched f _) = rw (f .out) refl
 reverse-opposite {s} (unsched {t} m {queue} _ i _) = ap isForward (ap (redeliver (undeliver t)) i ∙ redeliver-last (undeliver t) queue m)
 
--- .. and takes the state back
+-- .. and takes the state back: what was done, in every sound state, ..
+pub reverse-forward : {s : State} {d : Deed} {w : Move} → Sound s → Does s d w → ¬ Backward d → Undo (apply w s) s (reverse s (commandOf d))
+unfolding commandOf reverse undeliverOf Backward
+reverse-forward {s} sound (forward {p} {kind} i mk room size) n = subst (Undo _ s) (sym (making-reverse s p kind)) (undo-forward sound (forward i mk room size))
+reverse-forward sound (backward _ _) n = absurd (n tt)
+reverse-forward sound (sched f i) n = rw (f .out) (undo-deliver sound (sched f i))
+reverse-forward sound (unsched _ _ _ _) n = absurd (n tt)
+
+-- .. what was undelivered, in every sound state, ..
+pub reverse-undelivered : {s : State} {t : ℕ} {w : Move} → Sound s → Does s (undelivers t) w → Undo (apply w s) s (reverse s (undeliver t))
+unfolding reverse
+reverse-undelivered {s} {t} sound a =
+    let (m, queue, j, undo) = undo-undelivered sound a in
+    subst (Undo _ s) (sym (ap (redeliver (undeliver t)) j ∙ redeliver-last (undeliver t) queue m)) undo
+
+-- .. and what was undone, in every state reached from a load
 pub reversed : {s : State} {d : Deed} {w : Move} → Reached s → Does s d w → Undo (apply w s) s (reverse s (commandOf d))
-unfolding commandOf reverse undeliverOf retake
-reversed {s} r (forward {p} {kind} i mk room size) = subst (Undo _ s) (sym (making-reverse s p kind)) (undo-forward (r .sound) (forward i mk room size))
-reversed {s} r (backward {p} {kind} i un) = rw (history-of s p i) (redo (r .sound) (r .told) (backward i un))
-reversed {s} r (sched f i) = rw (f .out) (undo-deliver (r .sound) (sched f i))
-reversed {s} r (unsched {t} m {queue} v i g) =
-    let (n, queue′, j, undo) = undo-undelivered (r .sound) (unsched m {queue = queue} v i g) in
-    subst (Undo _ s) (sym (ap (redeliver (undeliver t)) j ∙ redeliver-last (undeliver t) queue′ n)) undo
+unfolding commandOf reverse retake Backward
+reversed r (forward i mk room size) = reverse-forward (r .sound) (forward i mk room size) (λ x. x)
+reversed {s} r (backward {p} i un) = rw (history-of s p i) (redo (r .sound) (r .told) (backward i un))
+reversed r (sched f i) = reverse-forward (r .sound) (sched f i) (λ x. x)
+reversed r (unsched m {queue} v i g) = reverse-undelivered (r .sound) (unsched m {queue = queue} v i g)

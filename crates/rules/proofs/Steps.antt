@@ -1,6 +1,7 @@
 -- Steps of `run` as states: what an accepted command did, and that the rules' deeds are accepted.
 use Prim.Native.Nat.{ℕ}
-use mathlib.Core.Path.{_≡_, refl, sym, _∙_, ap, subst}
+use mathlib.Core.Path.{_≡_, refl, sym, _∙_, ap, subst, subst₂}
+use mathlib.Core.Logic.{_≢_}
 use mathlib.Core.Bool.{Bool, true, false}
 use mathlib.Core.Option.{Option, none, some}
 use Rattle.lists.proofs.Tests.{true-not-false, none-not-some, some-injective}
@@ -8,11 +9,13 @@ use Rattle.causal.specs.Exec.{Step}
 use Rattle.rules.specs.State.{State}
 use Rattle.rules.specs.Commands.{Command, Deed, makes, undoes, delivers, undelivers, Move, apply, Plan, refuse, accept, run, afterPlan, runState}
 use Rattle.rules.specs.Rules.{Does, makingOf, commandOf}
+use Rattle.rules.specs.Independent.{IndependentDeeds, Independent}
 use Rattle.rules.specs.Reverse.{isForward}
 use Rattle.rules.proofs.Plans.{PoolEnds}
 use Rattle.rules.proofs.RunSound.{run-sound}
 use Rattle.rules.proofs.RunComplete.{run-complete}
-use Rattle.rules.proofs.Undo.{Undo, Backward}
+use Rattle.rules.proofs.Square.{Calm, square}
+use Rattle.rules.proofs.Undo.{Undo, Backward, undos-independent}
 use Rattle.rules.proofs.Reached.{makes-forward}
 
 -- an accepted command, with its deed
@@ -59,3 +62,33 @@ goes-forward (makes p kind) e x = x
 goes-forward (undoes p count kind) e x = true-not-false e refl
 goes-forward (delivers sender k t) e x = x
 goes-forward (undelivers t) e x = true-not-false e refl
+
+-- ---- two accepted commands that are independent and calm commute
+pub record Commuting (s a b : State) (t u : Command) : Type 0 where
+  pub end : State
+  pub then-u : runState u a ≡ some end
+  pub then-t : runState t b ≡ some end
+
+pub commuting : {s a b : State} {t u : Command} (k : Taken s t a) (l : Taken s u b) → IndependentDeeds (k .deed) (l .deed) → Calm (k .deed) (l .deed) → Commuting s a b t u
+commuting {s} {t} {u} k l apart calm =
+    let (after, before, one) = square (k .does) (l .does) apart calm in
+    record {
+      end = apply (l .move) (apply (k .move) s);
+      then-u = ap (runState u) (k .gives) ∙ does-step u after (l .is);
+      then-t = ap (runState t) (l .gives) ∙ does-step t before (k .is) ∙ ap some (sym one);
+    }
+
+-- two accepted plans of one command are one
+pub same-deed : {d d′ : Deed} {w w′ : Move} → accept d w ≡ accept d′ w′ → d ≡ d′
+same-deed e = cc
+
+-- the deeds of two independent commands are independent
+pub taken-apart : {s a b : State} {t u : Command} (k : Taken s t a) (l : Taken s u b) → Independent s t u → IndependentDeeds (k .deed) (l .deed)
+taken-apart k l i = subst₂ IndependentDeeds (same-deed (sym (i .accepted) ∙ k .ran)) (same-deed (sym (i .accepted′) ∙ l .ran)) (i .apart)
+
+pub taken-independent : {s a b : State} {t u : Command} (k : Taken s t a) (l : Taken s u b) → IndependentDeeds (k .deed) (l .deed) → Independent s t u
+taken-independent k l apart = record { deed = k .deed; deed′ = l .deed; move = k .move; move′ = l .move; accepted = k .ran; accepted′ = l .ran; apart = apart }
+
+-- two different accepted undos
+pub undos-apart : {s a b : State} {t u : Command} (k : Taken s t a) (l : Taken s u b) → isForward t ≡ false → isForward u ≡ false → t ≢ u → IndependentDeeds (k .deed) (l .deed)
+undos-apart k l f g n = undos-independent (k .does) (l .does) (goes-back (k .deed) (ap isForward (k .is) ∙ f)) (goes-back (l .deed) (ap isForward (l .is) ∙ g)) (λ e. n (sym (k .is) ∙ e ∙ l .is))

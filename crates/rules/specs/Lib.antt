@@ -16,3 +16,4 @@ pub mod Replies
 pub mod Opened
 pub mod Bench
 pub mod Cases
+pub mod Demands
