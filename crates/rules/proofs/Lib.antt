@@ -25,3 +25,4 @@ pub mod Corner
 pub mod Steps
 pub mod Causal
 pub mod ExactlyOnce
+pub mod Demands
