@@ -10,10 +10,11 @@ use native.Mathlib.Omega.{arith}
 use Rattle.lists.specs.Tables.{put}
 use Rattle.lists.proofs.Tables.{put-same, put-other}
 use Rattle.lists.proofs.Tests.{true-not-false}
+use Rattle.machine.specs.Work.{work}
 use Rattle.rules.specs.State.{Message, Kind, asRec, asSpawn, Entry, Process, Sizes, State, historyOf, historyAt, isProcess, inPool}
 use Rattle.rules.specs.Flight.{sends}
 use Rattle.rules.specs.Commands.{Deed, makes, undoes, delivers, undelivers, Beside, nothing, ownQueue, other, Move, turn, post, setProcess, setQueue, setBeside, apply, entry}
-use Rattle.rules.specs.Rules.{process, Makes, alone, by-send, by-receive, by-spawn, Undoes, undo-alone, undo-send, undo-receive, undo-spawn, Does, forward, backward, sched, unsched}
+use Rattle.rules.specs.Rules.{process, MakesAlone, by-seq, by-self, by-check, Makes, alone, by-send, by-receive, by-spawn, Undoes, undo-alone, undo-send, undo-receive, undo-spawn, Does, forward, backward, sched, unsched}
 use Rattle.rules.specs.Independent.{Apart, actor, mailbox, ifRec, receiver, spawnsInto, unspawns}
 
 pub state-path : {s t : State} → s .module′ ≡ t .module′ → s .sizes ≡ t .sizes → s .processes ≡ t .processes → s .queues ≡ t .queues → s ≡ t
@@ -32,6 +33,15 @@ same-sizes (turn p new nothing) s = refl
 same-sizes (turn p new (ownQueue queue)) s = refl
 same-sizes (turn p new (other q o)) s = refl
 same-sizes (post t queue) s = refl
+
+-- what a control is about to do stays
+pub work-after : (s : State) (w : Move) (control : List ℕ) → work ((apply w s) .module′) control ≡ work (s .module′) control
+work-after s w control = ap (λ module′. work module′ control) (same-module w s)
+
+pub alone-after : (s : State) (w : Move) {p : ℕ} {control next : List ℕ} {kind : Kind} → MakesAlone s p control kind next → MakesAlone (apply w s) p control kind next
+alone-after s w {control} (by-seq e) = by-seq (work-after s w control ∙ e)
+alone-after s w {control} (by-self e) = by-self (work-after s w control ∙ e)
+alone-after s w {control} (by-check e) = by-check (work-after s w control ∙ e)
 
 pub keep-process : {s : State} {w : Move} {d : Deed} (x : ℕ) → Does s d w → Apart (actor d) (some x) → Apart (spawnsInto d) (some x) → Apart (unspawns d) (some x)
     → (apply w s) .processes x ≡ s .processes x

@@ -24,3 +24,12 @@ pub mod SoundControls
 pub mod SoundStep
 pub mod SoundLoad
 pub mod Knows
+pub mod Learn
+pub mod Replay
+pub mod Amount
+pub mod Reached
+pub mod Corner
+pub mod Steps
+pub mod Causal
+pub mod ExactlyOnce
+pub mod Demands

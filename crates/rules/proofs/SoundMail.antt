@@ -135,7 +135,7 @@ module _ {s : State} (sound : Sound s) where
 
   -- ---- every message was sent
   -- a message that has come is not in flight, so its send is not undone
-  not-unsent : {d : Deed} {w : Move} {m : Message} {t : ℕ} → Does s d w → Among (Is m) s t → SentTo s t m → ¬ Unsends (m .sender) (m .count) d
+  pub not-unsent : {d : Deed} {w : Move} {m : Message} {t : ℕ} → Does s d w → Among (Is m) s t → SentTo s t m → ¬ Unsends (m .sender) (m .count) d
   unfolding Unsends SentTo asSend
   not-unsent (forward _ _ _ _) am z u = u
   not-unsent (backward _ (undo-alone a)) am z u = u .2 (alone-send a)

@@ -18,7 +18,7 @@ use Rattle.rules.specs.Commands.{Deed, makes, undoes, delivers, undelive
 use Rattle.rules.specs.Rules.{InFlight, MakesAlone, by-seq, by-self, by-check, Makes, alone, by-send, by-receive, by-spawn, Undoes, undo-alone, undo-send, undo-receive, undo-spawn, Does, forward, backward, sched, unsched}
 use Rattle.rules.specs.Independent.{Apart, actor, mailbox, actsAt, ifRec, receiver, spawnsInto, unspawns, Unsends, Crossed, IndependentDeeds}
 use Rattle.rules.proofs.Messages.{Any, any-none}
-use Rattle.rules.proofs.Frame.{state-path, same-module, same-sizes, turned, keep-process, keep-queue, in-pool, history-of}
+use Rattle.rules.proofs.Frame.{work-after, alone-after, state-path, same-module, same-sizes, turned, keep-process, keep-queue, in-pool, history-of}
 use Rattle.rules.proofs.Deeds.{target, targetOf, unspawning}
 use Rattle.rules.proofs.Questions.{Came, flight-lives, flight-fresh, flight-of, at?, actor-live, unspawns-live, spawns-free, stays-live, stays-free, own, live-spawns, free-acts, free-unspawns, came-was, sent-stays, sent-was, left-stays}
 
@@ -48,14 +48,14 @@ receiver-apart (undoes p count kind) o a = apart-if-rec p _ o a
 receiver-apart (delivers s k t) o a = tt
 receiver-apart (undelivers t) o a = tt
 
-actor-apart : (d : Deed) (o : Option ℕ) → Apart (actsAt d) o → Apart (actor d) o
+pub actor-apart : (d : Deed) (o : Option ℕ) → Apart (actsAt d) o → Apart (actor d) o
 unfolding Apart actor actsAt
 actor-apart (makes p kind) o a = a
 actor-apart (undoes p count kind) o a = a
 actor-apart (delivers s k t) o a = tt
 actor-apart (undelivers t) o a = tt
 
-mailbox-apart : (d : Deed) (o : Option ℕ) → Apart (actsAt d) o → Apart (mailbox d) o
+pub mailbox-apart : (d : Deed) (o : Option ℕ) → Apart (actsAt d) o → Apart (mailbox d) o
 unfolding Apart mailbox actsAt
 mailbox-apart (makes p kind) o a = tt
 mailbox-apart (undoes p count kind) o a = tt
@@ -122,23 +122,14 @@ module _ {s : State} {d : Deed} {w : Move} (a : Does s d w) where
       go (inl c) = flight-fresh f c
       go (inr e) = y e
 
-  -- what a control is about to do stays
-  work-stays : (control : List ℕ) → work ((apply w s) .module′) control ≡ work (s .module′) control
-  work-stays control = ap (λ module′. work module′ control) (same-module w s)
-
-  alone-stays : {p : ℕ} {control next : List ℕ} {kind : Kind} → MakesAlone s p control kind next → MakesAlone (apply w s) p control kind next
-  alone-stays {control} (by-seq e) = by-seq (work-stays control ∙ e)
-  alone-stays {control} (by-self e) = by-self (work-stays control ∙ e)
-  alone-stays {control} (by-check e) = by-check (work-stays control ∙ e)
-
   makes-stays : {p : ℕ} {control next : List ℕ} {kind : Kind} {beside : Beside} → IndependentDeeds d (makes p kind) → Calm d (makes p kind)
       → Makes s p control kind next beside → Makes (apply w s) p control kind next beside
   unfolding actor receiver mailbox spawnsInto target targetOf asSend asSpawn asRec ifRec
-  makes-stays f g (alone j) = alone (alone-stays j)
-  makes-stays {control} f g (by-send {target = t} e i) = by-send (work-stays control ∙ e) (stays-live t a i (g .aim))
+  makes-stays f g (alone j) = alone (alone-after s w j)
+  makes-stays {control} f g (by-send {target = t} e i) = by-send (work-after s w control ∙ e) (stays-live t a i (g .aim))
   makes-stays {p} {control} f g (by-receive {takes} e i) =
-      by-receive (work-stays control ∙ e) (ap (pick takes) (keep-queue p a (f .mail-receive) (receiver-apart d (some p) (f .actors))) ∙ i)
-  makes-stays {control} f g (by-spawn {f = q} e below n) = by-spawn {f = q} (work-stays control ∙ e) (rw (same-sizes w s) below) (stays-free a q n (f .spawns))
+      by-receive (work-after s w control ∙ e) (ap (pick takes) (keep-queue p a (f .mail-receive) (receiver-apart d (some p) (f .actors))) ∙ i)
+  makes-stays {control} f g (by-spawn {f = q} e below n) = by-spawn {f = q} (work-after s w control ∙ e) (rw (same-sizes w s) below) (stays-free a q n (f .spawns))
 
   quiet-stays : {q : ℕ} {first : List ℕ} → s .processes q ≡ some (newProcess first) → s .queues q ≡ [] → Apart (target d) (some q)
       → ((sender k : ℕ) (value : List ℕ) → ¬ InFlight s sender k q value) → (sender k : ℕ) (value : List ℕ) → ¬ InFlight (apply w s) sender k q value

@@ -60,7 +60,7 @@ undone-left {s} x (undo-receive j) i g = λ z.
     omega (arith, ap length j, ap (λ v. length (s .queues v)) z, ap (λ v. length (left (historyOf (s .processes v)))) z, ap (λ o. length (left (historyOf o))) i)
 undone-left x (undo-spawn _ _ _) i g = tt
 
-apart-none : (o : Option ℕ) → Apart o none
+pub apart-none : (o : Option ℕ) → Apart o none
 unfolding Apart
 apart-none none = tt
 apart-none (some x) = tt
@@ -114,6 +114,11 @@ undos-independent (unsched _ _ _ _) (unsched _ _ _ _) x y n = record {
 }
 
 -- ---- what was done is undone
+-- the deed that undoes a forward one
+pub data Undid : Deed → Deed → Type 0 where
+  undid-entry : {p n : ℕ} {kind : Kind} → Undid (makes p kind) (undoes p n kind)
+  undid-delivery : {sender k t : ℕ} → Undid (delivers sender k t) (undelivers t)
+
 -- a command that takes `after` back to s
 pub record Undo (after s : State) (c : Command) : Type 0 where
   pub deed : Deed
@@ -194,6 +199,17 @@ module _ {s : State} (sound : Sound s) where
     where
       long : length (left (historyAt s t)) < length (queue ++ (message sender k value ∷ []))
       long = rw length-append (omega (arith, left-fits sound t, ap length i))
+
+  pub undid-forward : {p : ℕ} {kind : Kind} {w : Move} (a : Does s (makes p kind) w) → Undid (makes p kind) (undo-forward a .deed)
+  unfolding undo-forward
+  undid-forward (forward i (alone j) r z) = undid-entry
+  undid-forward (forward i (by-send e live) r z) = undid-entry
+  undid-forward (forward i (by-receive e g) r z) = undid-entry
+  undid-forward (forward i (by-spawn e below n) r z) = undid-entry
+
+  pub undid-deliver : {sender k t : ℕ} {w : Move} (a : Does s (delivers sender k t) w) → Undid (delivers sender k t) (undo-deliver a .deed)
+  unfolding undo-deliver
+  undid-deliver (sched f i) = undid-delivery
 
   -- ---- what was undelivered is delivered again
   pub undo-undelivered : {t : ℕ} {w : Move} → Does s (undelivers t) w → (m : Message) × (queue : List Message) × (s .queues t ≡ queue ++ (m ∷ [])) × Undo (apply w s) s (deliver (m .sender) (m .count))

@@ -4,6 +4,7 @@ pub mod Flight
 pub mod Load
 pub mod Commands
 pub mod Rules
+pub mod Reverse
 pub mod Sound
 pub mod Independent
 pub mod Depends
@@ -15,3 +16,4 @@ pub mod Replies
 pub mod Opened
 pub mod Bench
 pub mod Cases
+pub mod Demands
