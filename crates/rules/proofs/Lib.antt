@@ -5,6 +5,7 @@ pub mod Removal
 pub mod Cut
 pub mod Search
 pub mod Rollback
+pub mod EventDepends
 pub mod Views
 pub mod Messages
 pub mod Histories
