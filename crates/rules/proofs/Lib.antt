@@ -6,6 +6,7 @@ pub mod Cut
 pub mod Search
 pub mod Rollback
 pub mod EventDepends
+pub mod Never
 pub mod Views
 pub mod Messages
 pub mod Histories

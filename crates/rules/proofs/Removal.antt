@@ -9,19 +9,18 @@ use native.Mathlib.Decide.{ℕ-discrete, decLt}
 use native.Mathlib.Omega.{arith}
 use lib.ListN.{length}
 use Rattle.lists.proofs.Tests.{true-not-false, none-not-some, some-injective, ltb-true, ltb-of, ltb-false, ltb-over}
-use Rattle.rules.specs.State.{Kind, seq, send, rec, spawn, self, check, asSpawn, Entry, State, historyAt, inPool}
+use Rattle.rules.specs.State.{Kind, seq, send, rec, spawn, self, check, Entry, State, historyAt, inPool}
 use Rattle.rules.specs.Commands.{Command, step, spawnInto, deliver, back, undeliver, Deed, makes, undoes, delivers, undelivers, Move, apply, Plan, refuse, accept, afterPlan, run, runState}
 use Rattle.rules.specs.Rules.{Does, forward, backward, sched, unsched, makingOf, commandOf}
-use Rattle.rules.specs.Independent.{Apart, actor, unspawns, IndependentDeeds}
+use Rattle.rules.specs.Independent.{unspawns, IndependentDeeds}
 use Rattle.rules.specs.Sound.{Sound}
 use Rattle.rules.specs.Depends.{Line, entriesOf, deliveriesTo, level, happened}
 use Rattle.rules.specs.Rollback.{isUndo, Undos, stop, undo, Removes, undoOf}
-use Rattle.rules.proofs.Histories.{suffix-top}
 use Rattle.rules.proofs.Frame.{in-pool, same-sizes}
-use Rattle.rules.proofs.Deeds.{target, unspawning}
+use Rattle.rules.proofs.Deeds.{target}
 use Rattle.rules.proofs.Square.{Calm, square}
 use Rattle.rules.proofs.Undo.{Backward, undos-independent}
-use Rattle.rules.proofs.SoundFacts.{spawned-once}
+use Rattle.rules.proofs.Knows.{apart-if, unspawns-apart}
 use Rattle.rules.proofs.RunSound.{By, run-sound}
 use Rattle.rules.proofs.RunComplete.{run-complete}
 use Rattle.rules.proofs.Event.{lineOf, line?, Under, under-refl, under-trans, low, Down, down}
@@ -102,18 +101,6 @@ pub of-undone : {s t : State} {x : Line} → Undone s t x → runState (undoOf x
 of-undone {s} {t} {x} u = ap (λ c. runState c s) (sym (command-of-line (u .deed) (u .undoes-it) ∙ ap undoOf (u .on))) ∙ does-undo (u .does) ∙ ap some (u .gives)
 
 -- ---- two undos commute, and one line has one undo
-apart-if : (a b : Option ℕ) → ((x : ℕ) → a ≡ some x → b ≡ some x → ⊥) → Apart a b
-unfolding Apart
-apart-if none b f = tt
-apart-if (some x) none f = tt
-apart-if (some x) (some y) f = λ e. f y (ap some e) refl
-
-apart-use : (a b : Option ℕ) {x y : ℕ} → Apart a b → a ≡ some x → b ≡ some y → x ≡ y → ⊥
-unfolding Apart
-apart-use none b n e f z = none-not-some e
-apart-use (some x) none n e f z = none-not-some f
-apart-use (some x) (some y) n e f z = n (some-injective e ∙ z ∙ sym (some-injective f))
-
 no-target : (d : Deed) (x : ℕ) → Backward d → target d ≡ some x → ⊥
 unfolding target Backward
 no-target (makes p kind) x b e = b
@@ -123,16 +110,12 @@ no-target (undelivers t) x b e = none-not-some e
 
 pub diamond : {s : State} {d e : Deed} {w u : Move} → Sound s → Does s d w → Does s e u → Backward d → Backward e → lineOf d ≢ lineOf e
     → Does (apply w s) e u × Does (apply u s) d w × (apply u (apply w s) ≡ apply w (apply u s))
-unfolding asSpawn
 diamond {s} {d} {e} sound a b x y n =
     let f = undos-independent a b x y (λ i. n (line-of-undo (lineOf d) (lineOf e) (sym (command-of-line d x) ∙ i ∙ command-of-line e y))) in
     square a b f (record {
       aim = apart-if (unspawns d) (target e) (λ z _ i. no-target e z y i);
       aimed = apart-if (target d) (unspawns e) (λ z i _. no-target d z x i);
-      unspawn-once = apart-if (unspawns d) (unspawns e) λ q i j.
-          let p = unspawning a i in
-          let r = unspawning b j in
-          apart-use (actor d) (actor e) (f .actors) (p .acts) (r .acts) (spawned-once sound {q = q} (p .at) (r .at) (suffix-top (p .top)) refl (suffix-top (r .top)) refl .0);
+      unspawn-once = unspawns-apart sound a b (f .actors);
     })
 
 accept-move : {d e : Deed} {w u : Move} → accept d w ≡ accept e u → w ≡ u
