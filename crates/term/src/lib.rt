@@ -1,1 +1,4 @@
-// Definitions only: see specs/.
+// Terms in rows of words: the table of the 18 tags, reading, the module check and the control check.
+pub mod tables;
+pub mod terms;
+pub mod words;
