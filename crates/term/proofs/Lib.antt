@@ -4,4 +4,6 @@ pub mod ReadLaws
 pub mod Fit
 pub mod TableLaws
 pub mod RowLaws
+pub mod SpotLaws
 pub mod ShapeLaws
+pub mod ReadingLaws

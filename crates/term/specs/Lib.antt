@@ -10,4 +10,5 @@ pub mod Control
 pub mod Value
 pub mod Kinds
 pub mod Rows
+pub mod Reading
 pub mod Cases
