@@ -45,8 +45,8 @@ pub record StepSentences : Type 0 where
   pub value : work someModule (0x07020000 ∷ 0x05000000 ∷ 0x06020000 ∷ 0x04000001 ∷ 0x05000000 ∷ []) ≡ finished
   -- "go into the leftmost non-value child": of {check 1, check 2} the first is worked on
   pub leftmost : work someModule (0x07020000 ∷ 0x10000001 ∷ 0x10000002 ∷ []) ≡ toCheck 1 (0x07020000 ∷ 0x02000001 ∷ 0x10000002 ∷ [])
-  -- "Clauses and a let's body wait": let 0 = check 1 in check 2
-  pub body-waits : work someModule (0x0B020000 ∷ 0x10000001 ∷ 0x10000002 ∷ []) ≡ toCheck 1 (0x0B020000 ∷ 0x02000001 ∷ 0x10000002 ∷ [])
+  -- "Clauses and a let's body wait": let 0 = nil in check 2
+  pub body-waits : work someModule (0x0B020000 ∷ 0x05000000 ∷ 0x10000002 ∷ []) ≡ toSeq (0x10000002 ∷ [])
   -- "Case takes the first clause whose pattern matches and whose guard gives atom 0": both clauses match
   pub first-clause : work someModule (0x0A020000 ∷ 0x05000000 ∷ 0x11030000 ∷ 0x01000000 ∷ 0x02000000 ∷ 0x02000007 ∷ 0x11030000 ∷ 0x01000000 ∷ 0x02000000 ∷ 0x02000008 ∷ []) ≡ toSeq (0x02000007 ∷ [])
   -- "a guard that is stuck counts as false": 1 < nil is stuck, and the second clause is taken

@@ -10,7 +10,7 @@ use native.Mathlib.Nat.{add-zero}
 use native.Mathlib.Decide.{ℕ-discrete}
 use lib.Dec.{leb, ltb}
 use lib.ListN.{length, getD, replicate, length-append, length-replicate}
-use Rattle.lists.specs.Lists.{member, All}
+use Rattle.lists.specs.Lists.{member}
 use Rattle.lists.proofs.Tests.{eqb-of, eqb-apart, leb-true, ltb-true, and-left, and-right, true-or-false, none-not-some}
 use Rattle.term.specs.Words.{word, tagOf, nOf, kOf, integerWord, tagInteger}
 use Rattle.term.specs.Table.{Children, alike, body, ofClause, ofCase, ofReceive, Row, noRow, table, rowOf, childCount, arity, tagsAt, kLimit, fits, ownSpot, spotsBelow, childSpots, spotFunction, spotExpression}
@@ -22,16 +22,12 @@ use Rattle.term.proofs.WordLaws.{tag-word, word-parts}
 use Rattle.term.proofs.TreeLaws.{words-one, words-split, count-first}
 use Rattle.term.proofs.ReadLaws.{terms-of-words, term-of-words}
 
--- every word has 32 bits
-abbrev pub Words32 : List ℕ → Type 0
-Words32 l = All (λ w. w < 4294967296) l
-
 -- (c) well-shaped terms are whole
 mutual
   unfolding Fit FitAll Whole WholeAll
 
   pub fit-whole : (places s : ℕ) (t : Term) → Fit places s t → Whole t
-  fit-whole places s (int x) h = h .0
+  fit-whole places s (int x) h = tt
   fit-whole places s (node tag n k ts) h = (h .0, fit-all-whole places ts (childSpots s (word tag n k)) (h .2))
 
   pub fit-all-whole : (places : ℕ) (ts : Terms) (spots : List ℕ) → FitAll places ts spots → WholeAll ts
@@ -79,7 +75,7 @@ mutual
       → shape places new (words t ++ l) (s ∷ others) at ≡ shape places new l others (at + length (words t))
   shape-term places new (int x) s l others at h =
       let two : suc (suc at) ≡ at + 2 = omega arith in
-      shape-integer places new integerWord s (x ∷ l) others at (h .1) refl ∙ ap (shape places new l others) two
+      shape-integer places new integerWord s (x ∷ l) others at h refl ∙ ap (shape places new l others) two
   shape-term places new (node tag n k ts) s l others at h =
       let d : ¬ (tagOf (word tag n k) ≡ tagInteger) = λ e. h .0 .no-integer (sym (tag-word tag n k (h .0 .n-fits) (h .0 .k-fits)) ∙ e) in
       let m : suc at + length (wordsOf ts) ≡ at + suc (length (wordsOf ts)) = omega arith in
@@ -190,10 +186,10 @@ fit-split places [] ys ts h = (tt, h, omega arith)
 fit-split places (x ∷ xs) ys end h = absurd h
 fit-split places (x ∷ xs) ys (t then ts) h = let r = fit-split places xs ys ts (h .1) in ((h .0, r .0), r .1, omega arith)
 
-node-shows : (places : ℕ) (new : List ℕ) (w s : ℕ) (l others : List ℕ) → w < 4294967296 → fits places s w ≡ true → ¬ (tagOf w ≡ tagInteger)
+node-shows : (places : ℕ) (new : List ℕ) (w s : ℕ) (l others : List ℕ) → fits places s w ≡ true → ¬ (tagOf w ≡ tagInteger)
     → Shows places new l (childSpots s w ++ others) → Shows places new (w ∷ l) (s ∷ others)
 unfolding FitAll Fit wordsOf words
-node-shows places new w s l others b f i r =
+node-shows places new w s l others f i r =
     let c = length (childSpots s w) in
     let p = fit-split places (childSpots s w) (others ++ rounds (r .again) new) (r .terms) (rw append-assoc at (r .fit)) in
     let wp = word-parts w in
@@ -204,7 +200,6 @@ node-shows places new w s l others b f i r =
       fit = (
         (
           record {
-            tag-fits = omega arith;
             n-fits = omega arith;
             k-fits = omega arith;
             no-integer = i;
@@ -217,27 +212,27 @@ node-shows places new w s l others b f i r =
       );
     }
 
-integer-shows : (places : ℕ) (new : List ℕ) (w s x : ℕ) (l others : List ℕ) → x < 4294967296 → fits places s w ≡ true → w ≡ integerWord
+integer-shows : (places : ℕ) (new : List ℕ) (w s x : ℕ) (l others : List ℕ) → fits places s w ≡ true → w ≡ integerWord
     → Shows places new l others → Shows places new (w ∷ x ∷ l) (s ∷ others)
 unfolding FitAll Fit wordsOf words
-integer-shows places new w s x l others b f e r =
+integer-shows places new w s x l others f e r =
     record {
       terms = int x then r .terms;
       again = r .again;
       same-words = cc (e, r .same-words);
-      fit = ((b, rw e at f), r .fit);
+      fit = (rw e at f, r .fit);
     }
 
 -- one word at a spot that waits, given what the words after it show
-word-shows : (places : ℕ) (new : List ℕ) (w s : ℕ) (l others : List ℕ) (at : ℕ) → w < 4294967296
+word-shows : (places : ℕ) (new : List ℕ) (w s : ℕ) (l others : List ℕ) (at : ℕ)
     → ((spots : List ℕ) (next : ℕ) → shape places new l spots next ≡ none → Shows places new l spots)
     → (fits places s w ≡ true → w ≡ integerWord → shapePayload places new l others (suc at) ≡ none → Shows places new (w ∷ l) (s ∷ others))
     → shape places new (w ∷ l) (s ∷ others) at ≡ none → Shows places new (w ∷ l) (s ∷ others)
-word-shows places new w s l others at b after payload e = by-fit (true-or-false (fits places s w))
+word-shows places new w s l others at after payload e = by-fit (true-or-false (fits places s w))
   where
     by-tag : fits places s w ≡ true → Dec (tagOf w ≡ tagInteger) → Shows places new (w ∷ l) (s ∷ others)
     by-tag f (yes i) = payload f (integer-word places s w f i) (sym (shape-integer places new w s l others at f i) ∙ e)
-    by-tag f (no i) = node-shows places new w s l others b f i (after (childSpots s w ++ others) (suc at) (sym (shape-node places new w s l others at f i) ∙ e))
+    by-tag f (no i) = node-shows places new w s l others f i (after (childSpots s w ++ others) (suc at) (sym (shape-node places new w s l others at f i) ∙ e))
 
     by-fit : (fits places s w ≡ true) ⊎ (fits places s w ≡ false) → Shows places new (w ∷ l) (s ∷ others)
     by-fit (inl f) = by-tag f (ℕ-discrete (tagOf w) tagInteger)
@@ -253,22 +248,22 @@ nothing-shows places new = record { terms = end; again = 0; same-words = refl; f
 
 -- (b) words that pass are those of well-shaped terms
 mutual
-  unfolding shape wanted All
+  unfolding shape wanted
 
-  pub shape-shows : (places : ℕ) (new l spots : List ℕ) (at : ℕ) → Words32 l → shape places new l spots at ≡ none → Shows places new l spots
-  shape-shows places new [] [] at h e = nothing-shows places new
-  shape-shows places new [] (s ∷ spots) at h e = none-not-some (sym e)
-  shape-shows places [] (w ∷ l) [] at h e = none-not-some (sym e)
-  shape-shows places (s ∷ new) (w ∷ l) [] at h e =
+  pub shape-shows : (places : ℕ) (new l spots : List ℕ) (at : ℕ) → shape places new l spots at ≡ none → Shows places new l spots
+  shape-shows places new [] [] at e = nothing-shows places new
+  shape-shows places new [] (s ∷ spots) at e = none-not-some (sym e)
+  shape-shows places [] (w ∷ l) [] at e = none-not-some (sym e)
+  shape-shows places (s ∷ new) (w ∷ l) [] at e =
       new-shows places (s ∷ new) (w ∷ l) (
-      word-shows places (s ∷ new) w s l new at (h .0) (λ spots next g. shape-shows places (s ∷ new) l spots next (h .1) g) (λ f i g. payload-shows places (s ∷ new) w s l new (suc at) (h .1) f i g) e)
-  shape-shows places new (w ∷ l) (s ∷ others) at h e =
-      word-shows places new w s l others at (h .0) (λ spots next g. shape-shows places new l spots next (h .1) g) (λ f i g. payload-shows places new w s l others (suc at) (h .1) f i g) e
+      word-shows places (s ∷ new) w s l new at (λ spots next g. shape-shows places (s ∷ new) l spots next g) (λ f i g. payload-shows places (s ∷ new) w s l new (suc at) f i g) e)
+  shape-shows places new (w ∷ l) (s ∷ others) at e =
+      word-shows places new w s l others at (λ spots next g. shape-shows places new l spots next g) (λ f i g. payload-shows places new w s l others (suc at) f i g) e
 
-  payload-shows : (places : ℕ) (new : List ℕ) (w s : ℕ) (l others : List ℕ) (at : ℕ) → Words32 l → fits places s w ≡ true → w ≡ integerWord → shapePayload places new l others at ≡ none
+  payload-shows : (places : ℕ) (new : List ℕ) (w s : ℕ) (l others : List ℕ) (at : ℕ) → fits places s w ≡ true → w ≡ integerWord → shapePayload places new l others at ≡ none
       → Shows places new (w ∷ l) (s ∷ others)
-  payload-shows places new w s [] others at h f i e = none-not-some (sym e)
-  payload-shows places new w s (x ∷ l) others at h f i e = integer-shows places new w s x l others (h .0) f i (shape-shows places new l others (suc at) (h .1) e)
+  payload-shows places new w s [] others at f i e = none-not-some (sym e)
+  payload-shows places new w s (x ∷ l) others at f i e = integer-shows places new w s x l others f i (shape-shows places new l others (suc at) e)
 
 -- one well-shaped term, by the words that it has
 pub record Shaped (places s : ℕ) (l : List ℕ) : Type 0 where
@@ -303,21 +298,21 @@ unfolding rounds
 rounds-one zero s = refl
 rounds-one (suc n) s = ap (λ (l : List ℕ). s ∷ l) (rounds-one n s)
 
-pub shaped-term : (places s : ℕ) (l : List ℕ) → Words32 l → shape places [] l (s ∷ []) 0 ≡ none → Shaped places s l
-shaped-term places s l h e =
-    let r = shape-shows places [] l (s ∷ []) 0 h e in
+pub shaped-term : (places s : ℕ) (l : List ℕ) → shape places [] l (s ∷ []) 0 ≡ none → Shaped places s l
+shaped-term places s l e =
+    let r = shape-shows places [] l (s ∷ []) 0 e in
     one-shaped places s l (r .terms) (r .same-words) (rw (rounds-nothing (r .again)) at (r .fit))
 
 -- a control that passes is one expression
-pub shaped-control : (places : ℕ) (l : List ℕ) → Words32 l → controlShape places l ≡ none → Shaped places spotExpression l
+pub shaped-control : (places : ℕ) (l : List ℕ) → controlShape places l ≡ none → Shaped places spotExpression l
 unfolding controlShape
-shaped-control places l h e = shaped-term places spotExpression l h e
+shaped-control places l e = shaped-term places spotExpression l e
 
 -- a module that passes is one or more functions
-pub shaped-module : (l : List ℕ) → Words32 l → moduleShape l ≡ none → Functions l
+pub shaped-module : (l : List ℕ) → moduleShape l ≡ none → Functions l
 unfolding moduleShape
-shaped-module l h e =
-    let r = shape-shows 0 (spotFunction ∷ []) l (spotFunction ∷ []) 0 h e in
+shaped-module l e =
+    let r = shape-shows 0 (spotFunction ∷ []) l (spotFunction ∷ []) 0 e in
     let f : FitAll 0 (r .terms) (replicate (suc (r .again)) spotFunction) = rw (rounds-one (r .again) spotFunction) at (r .fit) in
     record {
       others = r .again;

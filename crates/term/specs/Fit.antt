@@ -1,5 +1,5 @@
 -- Well-shaped trees: what `shape` asks of words, said of trees.
-use Prim.Native.Nat.{ℕ, _<_}
+use Prim.Native.Nat.{ℕ}
 use mathlib.Core.Path.{_≡_}
 use mathlib.Core.Bool.{true}
 use mathlib.Core.List.{List, [], _∷_}
@@ -10,7 +10,7 @@ use Rattle.term.specs.Tree.{Term, Terms, int, node, end, _then_, count, 
 -- a term may stand at a spot: its word may, and its children at the spots below it
 unfoldable mutual
   pub Fit : (places spot : ℕ) → Term → Type 0
-  Fit places spot (int x) = (x < 4294967296) × (fits places spot integerWord ≡ true)
+  Fit places spot (int x) = fits places spot integerWord ≡ true
   Fit places spot (node tag n k ts) = Head tag n k (count ts) × (fits places spot (word tag n k) ≡ true) × FitAll places ts (childSpots spot (word tag n k))
 
   pub FitAll : (places : ℕ) → Terms → List ℕ → Type 0

@@ -42,9 +42,8 @@ rest zero ts = ts
 rest (suc n) end = end
 rest (suc n) (t then ts) = rest n ts
 
--- a word's parts fit their places in it, its tag is no integer's, and as many children follow as it says
+-- n and k fit their places in the word, the tag is no integer's, and as many children follow as the word says
 pub record Head (tag n k children : ℕ) : Type 0 where
-  pub tag-fits : tag < 256
   pub n-fits : n < 256
   pub k-fits : k < 65536
   pub no-integer : ¬ (tag ≡ tagInteger)
@@ -53,7 +52,7 @@ pub record Head (tag n k children : ℕ) : Type 0 where
 -- terms that are what their words say
 unfoldable mutual
   pub Whole : Term → Type 0
-  Whole (int x) = x < 4294967296
+  Whole (int x) = Unit {0}
   Whole (node tag n k ts) = Head tag n k (count ts) × WholeAll ts
 
   pub WholeAll : Terms → Type 0
