@@ -1,1 +1,3 @@
 pub mod Fit
+pub mod Keep
+pub mod KeepLaws
