@@ -7,6 +7,7 @@ use mathlib.Core.List.{List, [], _∷_, _++_}
 use native.Mathlib.Omega.{arith}
 use native.Mathlib.Decide.{decLt}
 use lib.Dec.{eqb}
+use lib.ListN.{replicate}
 use Rattle.lists.specs.Lists.{member, upTo, All}
 use Rattle.lists.proofs.Tests.{eqb-true, eqb-of, eqb-apart, or-true, or-left, or-right, or-false-left, or-false-right, or-false, true-not-false}
 
@@ -67,3 +68,9 @@ below-upTo k (suc n) h = elim (decLt k n) [
   | yes b ↦ member-left k (upTo n) (n ∷ []) (below-upTo k n b)
   | no b ↦ member-right k (upTo n) (n ∷ []) (let e : k ≡ n = omega arith in subst (λ m. member k (m ∷ []) ≡ true) e (member-here k []))
 ]
+
+-- what holds of x holds of all of a list of x
+pub all-replicate : {A : Type 0} (P : A → Type 0) (n : ℕ) (x : A) → P x → All P (replicate n x)
+unfolding All
+all-replicate P zero x h = tt
+all-replicate P (suc n) x h = (h, all-replicate P n x h)

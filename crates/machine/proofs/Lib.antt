@@ -1,3 +1,4 @@
 pub mod Sits
 pub mod TagLaws
 pub mod SitLaws
+pub mod BindLaws

@@ -66,7 +66,9 @@ module _ (places : ℕ) where
   pub value-anywhere : (v : Term) (s : ℕ) → eqb places 0 ≡ false → Outside s → member tagVariable (tagsAt places s) ≡ true → Sits places spotValue v → Sits places s v
   unfolding All tagsAt member
   value-anywhere v s p o m h = member-all (λ s′. member tagVariable (tagsAt places s′) ≡ true → Sits places s′ v) s outsideSpots (
-      (λ i. value-expression v h), ((λ i. value-guard v p h), ((λ i. true-not-false i refl), ((λ i. true-not-false i refl), tt)))) o m
+    (λ i. value-expression v h),
+    ((λ i. value-guard v p h), ((λ i. true-not-false i refl), ((λ i. true-not-false i refl), tt))),
+  ) o m
 
   -- values keep every rule in every scope
   mutual
