@@ -2,3 +2,4 @@ pub mod Sits
 pub mod TagLaws
 pub mod SitLaws
 pub mod BindLaws
+pub mod MatchLaws
