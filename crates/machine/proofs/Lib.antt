@@ -3,3 +3,5 @@ pub mod TagLaws
 pub mod SitLaws
 pub mod BindLaws
 pub mod MatchLaws
+pub mod Right
+pub mod PlaceLaws

@@ -23,15 +23,15 @@ pub under-alike : (s tag n : ℕ) → rowOf tag .children ≡ alike → spotsUnd
 unfolding spotsBelow
 under-alike s tag n e = rw e refl
 
-under-value : (places tag n : ℕ) → OfValue places tag → spotsUnder spotValue tag n ≡ replicate n spotValue
+pub under-value : (places tag n : ℕ) → OfValue places tag → spotsUnder spotValue tag n ≡ replicate n spotValue
 unfolding ownSpot
 under-value places tag n v = under-alike spotValue tag n (v .children-alike)
 
-under-expression : (tag n : ℕ) → rowOf tag .children ≡ alike → spotsUnder spotExpression tag n ≡ replicate n spotExpression
+pub under-expression : (tag n : ℕ) → rowOf tag .children ≡ alike → spotsUnder spotExpression tag n ≡ replicate n spotExpression
 unfolding ownSpot
 under-expression tag n e = under-alike spotExpression tag n e
 
-under-guard : (places tag n : ℕ) → OfValue places tag → spotsUnder spotGuard tag n ≡ replicate n spotValue
+pub under-guard : (places tag n : ℕ) → OfValue places tag → spotsUnder spotGuard tag n ≡ replicate n spotValue
 unfolding ownSpot
 under-guard places tag n v = under-alike spotGuard tag n (v .children-alike) ∙ rw (v .not-call) refl
 

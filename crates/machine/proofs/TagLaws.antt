@@ -21,6 +21,10 @@ outsideSpots = spotExpression ∷ spotGuard ∷ spotClause ∷ spotValue ∷ []
 abbrev pub Outside : ℕ → Type 0
 Outside s = member s outsideSpots ≡ true
 
+pub outside-expression : Outside spotExpression
+unfolding member
+outside-expression = refl
+
 -- a tag of values
 pub record OfValue (places tag : ℕ) : Type 0 where
   pub children-alike : rowOf tag .children ≡ alike
