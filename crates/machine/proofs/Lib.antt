@@ -5,3 +5,6 @@ pub mod BindLaws
 pub mod MatchLaws
 pub mod Right
 pub mod PlaceLaws
+pub mod OperatorLaws
+pub mod ClauseLaws
+pub mod RowLaws
