@@ -8,3 +8,5 @@ pub mod PlaceLaws
 pub mod OperatorLaws
 pub mod ClauseLaws
 pub mod RowLaws
+pub mod ControlLaws
+pub mod ModuleLaws

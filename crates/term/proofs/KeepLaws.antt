@@ -81,7 +81,7 @@ unfolding breaker
 broken-passes e = none-not-some (sym (ap breaker e))
 
 -- both parts of a walk passed
-then-passed : (walk : Walk) (next : ℕ → List ℕ → List ℕ → Walk) (p : Passes (andThen walk next)) → (q : Passes walk) × (next (q .at) (q .scope) (q .checks) ≡ passes (p .at) (p .scope) (p .checks))
+pub then-passed : (walk : Walk) (next : ℕ → List ℕ → List ℕ → Walk) (p : Passes (andThen walk next)) → (q : Passes walk) × (next (q .at) (q .scope) (q .checks) ≡ passes (p .at) (p .scope) (p .checks))
 unfolding andThen
 then-passed (breaks at) next p = broken-passes (p .same)
 then-passed (passes at scope checks) next p = (record { at = at; scope = scope; checks = checks; same = refl }, p .same)
