@@ -10,3 +10,5 @@ pub mod ClauseLaws
 pub mod RowLaws
 pub mod ControlLaws
 pub mod ModuleLaws
+pub mod StepLaws
+pub mod WorkLaws

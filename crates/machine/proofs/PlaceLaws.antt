@@ -31,7 +31,7 @@ module _ (t : Term) (ts : Terms) (m : ℕ) where
   unfolding working
   working-into whole e = choose-false (workingIn ts m whole) (working t) e
 
-  ready-past : isValue t ≡ true → ready (t then ts) (suc m) ≡ ready ts m
+  pub ready-past : isValue t ≡ true → ready (t then ts) (suc m) ≡ ready ts m
   unfolding ready
   ready-past e = choose-true (ready ts m) false e
 
