@@ -1,15 +1,15 @@
 -- Laws of `member`.
 use Prim.Native.Nat.{ℕ, zero, suc, _<_}
-use mathlib.Core.Path.{_≡_, refl, sym, _∙_, ap, subst}
+use mathlib.Core.Path.{_≡_, refl, sym, subst}
 use mathlib.Core.Logic.{_⊎_, inl, inr}
-use mathlib.Core.Bool.{Bool, true, false, _||_}
+use mathlib.Core.Bool.{true}
 use mathlib.Core.List.{List, [], _∷_, _++_}
 use native.Mathlib.Omega.{arith}
 use native.Mathlib.Decide.{decLt}
 use lib.Dec.{eqb}
 use lib.ListN.{replicate}
 use Rattle.lists.specs.Lists.{member, upTo, All}
-use Rattle.lists.proofs.Tests.{eqb-true, eqb-of, eqb-apart, or-true, or-left, or-right, or-false-left, or-false-right, or-false, true-not-false}
+use Rattle.lists.proofs.Tests.{eqb-true, eqb-of, or-true, or-left, or-right, true-not-false}
 
 pub member-here : (k : ℕ) (xs : List ℕ) → member k (k ∷ xs) ≡ true
 unfolding member

@@ -1,27 +1,27 @@
 -- Binding: values in place of variables keep the shape and the binding rules, and bring no other pids.
-use Prim.Native.Nat.{ℕ, zero, suc, _<_, _≤_}
-use mathlib.Core.Path.{_≡_, refl, sym, _∙_, ap, ap₂, subst}
+use Prim.Native.Nat.{ℕ, zero, suc, _≤_}
+use mathlib.Core.Path.{_≡_, refl, _∙_, ap, ap₂, subst}
 use mathlib.Core.Logic.{_⊎_, inl, inr}
-use mathlib.Core.Bool.{Bool, true, false, cond, not, _&&_, _||_}
+use mathlib.Core.Bool.{Bool, true, false, cond, not, _||_}
 use mathlib.Core.Option.{Option, none, some}
 use mathlib.Core.List.{List, [], _∷_}
 use native.Mathlib.Omega.{arith}
 use lib.Dec.{eqb}
 use lib.ListN.{replicate}
 use Rattle.lists.specs.Lists.{member, All}
-use Rattle.lists.proofs.Tests.{eqb-true, eqb-of, true-or-false, true-not-false, not-true, none-not-some, some-injective, choose, choose-true, choose-false}
+use Rattle.lists.proofs.Tests.{eqb-true, eqb-of, true-or-false, true-not-false, not-true, choose-true, choose-false}
 use Rattle.lists.proofs.Members.{member-here, member-there, member-cons, all-replicate}
-use Rattle.term.specs.Words.{tagVariable, tagApply, tagSpawn, tagLet, tagCheck, tagClause, tagCase, tagReceive}
-use Rattle.term.specs.Table.{alike, ofClause, Row, table, rowOf, tagsAt, ownSpot, spotsBelow, spotExpression, spotPattern, spotGuard, spotClause, spotValue}
+use Rattle.term.specs.Words.{tagVariable, tagApply, tagSpawn, tagLet, tagCheck, tagClause}
+use Rattle.term.specs.Table.{alike, table, rowOf, ownSpot, spotsBelow, spotExpression, spotPattern, spotGuard, spotClause, spotValue}
 use Rattle.term.specs.Tree.{Term, Terms, int, node, end, _then_}
 use Rattle.term.specs.Binding.{keepsRule, names}
 use Rattle.term.proofs.Keep.{opens, opensAll, New, NewAll, Keeps, KeepsAll, KeepsLet, KeepsClause}
 use Rattle.term.proofs.KeepLaws.{opens-variable, opens-below}
-use Rattle.machine.specs.Match.{Bindings, unbound, with}
-use Rattle.machine.specs.Bind.{bind, bindAll, parameters}
+use Rattle.machine.specs.Match.{Bindings}
+use Rattle.machine.specs.Bind.{bind, bindAll}
 use Rattle.machine.specs.Laws.{PidIn, PidAmong}
 use Rattle.machine.proofs.Sits.{Stands, spotsUnder, Sits, SitAll}
-use Rattle.machine.proofs.TagLaws.{outsideSpots, Outside, Below, same, case, receive, clause, below}
+use Rattle.machine.proofs.TagLaws.{Outside, Below, same, case, receive, clause, below}
 use Rattle.machine.proofs.SitLaws.{under-alike, value-anywhere, value-keeps}
 
 -- the clauses of `bind`, by the tests that they make

@@ -1,25 +1,25 @@
 -- Clauses: the body that a value takes is right, and its pids stand in the clauses or in the value.
-use Prim.Native.Nat.{ℕ, zero, suc, _<_, _≤_}
-use mathlib.Core.Path.{_≡_, refl, sym, _∙_, ap, subst}
+use Prim.Native.Nat.{ℕ, zero, suc}
+use mathlib.Core.Path.{_≡_, sym, _∙_, ap}
 use mathlib.Core.Logic.{_⊎_, inl, inr}
-use mathlib.Core.Bool.{Bool, true, false}
+use mathlib.Core.Bool.{false}
 use mathlib.Core.Option.{Option, none, some}
 use mathlib.Core.List.{List, [], _∷_}
 use lib.Dec.{eqb}
 use lib.ListN.{replicate}
 use Rattle.lists.specs.Lists.{member}
-use Rattle.lists.proofs.Tests.{eqb-of, true-or-false, true-not-false, none-not-some, some-injective, choose, choose-true, choose-false}
+use Rattle.lists.proofs.Tests.{true-or-false, none-not-some, some-injective, choose-true, choose-false}
 use Rattle.lists.proofs.Members.{member-cons, member-none}
-use Rattle.term.specs.Words.{tagLet, tagClause}
-use Rattle.term.specs.Table.{Row, table, rowOf, tagsAt, spotsBelow, spotExpression, spotPattern, spotGuard, spotClause, spotValue}
+use Rattle.term.specs.Words.{tagClause}
+use Rattle.term.specs.Table.{table, rowOf, tagsAt, spotsBelow, spotExpression, spotPattern, spotGuard, spotClause, spotValue}
 use Rattle.term.specs.Tree.{Term, Terms, int, node, end, _then_}
-use Rattle.term.proofs.Keep.{opens, New, Keeps, KeepsAll, KeepsClause}
+use Rattle.term.proofs.Keep.{opens, Keeps, KeepsAll, KeepsClause}
 use Rattle.machine.specs.Match.{Bindings, unbound, match}
 use Rattle.machine.specs.Bind.{bind}
 use Rattle.machine.specs.Guard.{guardHolds}
 use Rattle.machine.specs.Clauses.{ifHolds, partsTake, clauseTakes, firstClause}
 use Rattle.machine.specs.Laws.{PidIn, PidAmong}
-use Rattle.machine.proofs.Sits.{Stands, spotsUnder, Sits, SitAll}
+use Rattle.machine.proofs.Sits.{Sits, SitAll}
 use Rattle.machine.proofs.TagLaws.{outside-expression}
 use Rattle.machine.proofs.BindLaws.{bind-right, bind-pid, none-or-some}
 use Rattle.machine.proofs.MatchLaws.{Binds, binds-covers, binds-nothing, match-binds}

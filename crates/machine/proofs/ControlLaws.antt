@@ -1,25 +1,25 @@
 -- Good controls are the rows of right terms.
 use Prim.Native.Nat.{ℕ, _≤_}
-use mathlib.Core.Path.{_≡_, refl, sym, _∙_, ap, subst}
-use mathlib.Core.Logic.{_⊎_, inl, inr}
+use mathlib.Core.Path.{_≡_, sym, _∙_, ap}
+use mathlib.Core.Logic.{inl, inr}
 use mathlib.Core.Bool.{Bool, true, false}
 use mathlib.Core.Option.{Option, none, some}
-use mathlib.Core.List.{List, [], _∷_}
+use mathlib.Core.List.{List, []}
 use Rattle.lists.proofs.Tests.{true-not-false}
-use Rattle.term.specs.Table.{spotExpression, spotValue}
+use Rattle.term.specs.Table.{spotExpression}
 use Rattle.term.specs.Tree.{Term, words}
 use Rattle.term.specs.Read.{termOf}
-use Rattle.term.specs.Shape.{shape, controlShape}
+use Rattle.term.specs.Shape.{controlShape}
 use Rattle.term.specs.Binding.{keeps}
 use Rattle.term.specs.Module.{breaker}
 use Rattle.term.specs.Control.{keepsRules, goodControl}
 use Rattle.term.proofs.Keep.{Keeps}
 use Rattle.term.proofs.KeepLaws.{passed, not-broken, keeps-tree, tree-keeps}
-use Rattle.machine.specs.Laws.{PidIn, Holds, GoodValue}
+use Rattle.machine.specs.Laws.{PidIn, Holds}
 use Rattle.machine.proofs.Sits.{Sits}
 use Rattle.machine.proofs.BindLaws.{none-or-some}
 use Rattle.machine.proofs.Right.{Right}
-use Rattle.machine.proofs.RowLaws.{OneTerm, passes-term, term-passes, term-of-words}
+use Rattle.machine.proofs.RowLaws.{passes-term, term-passes, term-of-words}
 
 -- the clauses of the definitions, by the tests that they make
 abbrev onBreaker : Option ℕ → Bool

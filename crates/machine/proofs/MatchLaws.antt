@@ -1,16 +1,16 @@
 -- Matching gives a value to each variable of the pattern and to no other, and the values are parts of the value matched. A function's
 -- parameters likewise.
-use Prim.Native.Nat.{ℕ, zero, suc, _+_, _<_, _≤_}
-use mathlib.Core.Path.{_≡_, refl, sym, _∙_, ap, subst}
-use mathlib.Core.Logic.{_⊎_, inl, inr}
-use mathlib.Core.Bool.{Bool, true, false, cond, _&&_}
+use Prim.Native.Nat.{ℕ, suc, _+_, _<_, _≤_}
+use mathlib.Core.Path.{_≡_, sym, _∙_, ap, subst}
+use mathlib.Core.Logic.{inl, inr}
+use mathlib.Core.Bool.{true, false, _&&_}
 use mathlib.Core.Option.{Option, none, some}
 use mathlib.Core.List.{List, [], _∷_}
 use native.Mathlib.Omega.{arith}
 use native.Mathlib.Decide.{ℕ-discrete}
 use lib.Dec.{eqb}
 use Rattle.lists.specs.Lists.{member, upTo}
-use Rattle.lists.proofs.Tests.{eqb-true, eqb-of, eqb-false, eqb-apart, true-or-false, true-not-false, none-not-some, some-injective, cond-true, cond-false, choose, choose-true, choose-false}
+use Rattle.lists.proofs.Tests.{eqb-of, eqb-apart, true-or-false, none-not-some, some-injective, cond-true, cond-false, choose-true, choose-false}
 use Rattle.lists.proofs.Members.{member-here, member-there, member-cons, member-none, upTo-below, below-upTo}
 use Rattle.term.specs.Words.{tagVariable}
 use Rattle.term.specs.Tree.{Term, Terms, int, node, end, _then_, count}

@@ -1,25 +1,25 @@
 -- Good modules: the functions that are named have bodies that may be applied.
-use Prim.Native.Nat.{ℕ, zero, suc, _≤_}
+use Prim.Native.Nat.{ℕ, zero, suc}
 use mathlib.Core.Path.{_≡_, refl, sym, _∙_, ap, subst}
-use mathlib.Core.Logic.{_⊎_, inl, inr}
+use mathlib.Core.Logic.{inl, inr}
 use mathlib.Core.Bool.{Bool, true, false}
 use mathlib.Core.Option.{Option, none, some}
 use mathlib.Core.List.{List, [], _∷_}
 use lib.Dec.{eqb, ltb}
 use lib.ListN.{length, getElem?, replicate}
 use Rattle.lists.specs.Lists.{member, upTo}
-use Rattle.lists.proofs.Tests.{eqb-true, true-or-false, true-not-false, none-not-some, some-injective, choose, choose-true, choose-false}
+use Rattle.lists.proofs.Tests.{eqb-true, true-or-false, true-not-false, none-not-some, some-injective, choose-true, choose-false}
 use Rattle.lists.proofs.Members.{member-cons, member-none}
 use Rattle.term.specs.Words.{tagFunction}
-use Rattle.term.specs.Table.{Row, table, rowOf, tagsAt, spotsBelow, spotFunction, spotExpression}
+use Rattle.term.specs.Table.{table, rowOf, tagsAt, spotsBelow, spotFunction, spotExpression}
 use Rattle.term.specs.Tree.{Term, Terms, int, node, end, _then_}
 use Rattle.term.specs.Read.{termsOf}
 use Rattle.term.specs.Shape.{moduleShape}
-use Rattle.term.specs.Binding.{Walk, breaks, passes, andThen, names, keepsAll, functionKeeps, functionsKeep}
+use Rattle.term.specs.Binding.{breaks, names, functionKeeps, functionsKeep}
 use Rattle.term.specs.Module.{longestModule, parametersOf, bodyOf, aritiesOf, functionOf, rulesFrom, breaker, firstBreaker, checkModule}
 use Rattle.term.proofs.Keep.{KeepsAll}
 use Rattle.term.proofs.KeepLaws.{Passes, passed, then-passed, all-tree}
-use Rattle.machine.proofs.Sits.{Stands, Sits, SitAll}
+use Rattle.machine.proofs.Sits.{Sits, SitAll}
 use Rattle.machine.proofs.BindLaws.{none-or-some}
 use Rattle.machine.proofs.RowLaws.{passes-module}
 

@@ -1,22 +1,21 @@
 -- Operators give values that hold no pid.
-use Prim.Native.Nat.{ℕ, zero, suc, _<_, _≤_}
-use mathlib.Core.Path.{_≡_, refl, sym, _∙_, ap, subst}
-use mathlib.Core.Logic.{_⊎_, inl, inr}
+use Prim.Native.Nat.{ℕ, _<_}
+use mathlib.Core.Path.{_≡_, refl, subst}
+use mathlib.Core.Logic.{inl, inr}
 use mathlib.Core.Bool.{Bool, true, false, cond, not}
 use mathlib.Core.Option.{Option, none, some}
 use native.Mathlib.Omega.{arith}
 use lib.Dec.{eqb}
-use lib.IntN.{ℤ, pos, negsuc, _+ℤ_, _-ℤ_, _*ℤ_}
+use lib.IntN.{ℤ, _+ℤ_, _-ℤ_, _*ℤ_}
 use lib.Signed.{ltZ, leZ, quotZ, remZ}
 use Rattle.lists.specs.Lists.{member}
 use Rattle.lists.proofs.Tests.{none-not-some, some-injective}
-use Rattle.term.specs.Words.{tagAtom, tagPid}
-use Rattle.term.specs.Table.{Row, table, rowOf, tagsAt, kLimit, spotsBelow, spotValue}
+use Rattle.term.specs.Table.{table, rowOf, tagsAt, kLimit, spotsBelow, spotValue}
 use Rattle.term.specs.Tree.{Term, Terms, int, node, end, _then_}
 use Rattle.machine.specs.Value.{sameTerm, truth, atom, pid}
 use Rattle.machine.specs.Operator.{opAdd, opSubtract, opMultiply, opDiv, opRem, opEqual, opUnequal, opLess, opAtMost, unsigned, signed, inRange, ranged, isZero, divided, onIntegers, ifIntegers, operate, operateOn}
 use Rattle.machine.specs.Laws.{PidIn, PidAmong}
-use Rattle.machine.proofs.Sits.{Stands, Sits, SitAll}
+use Rattle.machine.proofs.Sits.{Sits, SitAll}
 
 -- a value that holds no pid
 pub record Plain (places : ℕ) (t : Term) : Type 0 where

@@ -1,22 +1,22 @@
 -- The working place: what stands there is right, and the whole stays right, with no other pids, when something right is put there.
-use Prim.Native.Nat.{ℕ, zero, suc, _+_, _<_, _≤_}
-use mathlib.Core.Path.{_≡_, refl, sym, _∙_, ap, subst}
+use Prim.Native.Nat.{ℕ, zero, suc, _≤_}
+use mathlib.Core.Path.{_≡_, refl, _∙_}
 use mathlib.Core.Logic.{_⊎_, inl, inr}
-use mathlib.Core.Bool.{Bool, true, false, cond, _||_}
-use mathlib.Core.List.{List, [], _∷_, _++_}
+use mathlib.Core.Bool.{true, false, cond, _||_}
+use mathlib.Core.List.{List, [], _∷_}
 use native.Mathlib.Omega.{arith}
 use lib.Dec.{eqb}
 use lib.ListN.{length, replicate, length-append}
 use Rattle.lists.specs.Lists.{member}
-use Rattle.lists.proofs.Tests.{eqb-true, eqb-of, true-or-false, true-not-false, or-left, or-right, or-false, cond-true, cond-false, choose, choose-true, choose-false}
+use Rattle.lists.proofs.Tests.{eqb-true, eqb-of, true-or-false, true-not-false, or-left, or-right, cond-true, choose-true, choose-false}
 use Rattle.term.specs.Words.{tagCase, tagLet, tagReceive, tagClause}
-use Rattle.term.specs.Table.{alike, Row, table, rowOf, tagsAt, spotsBelow, spotExpression, spotClause}
+use Rattle.term.specs.Table.{table, rowOf, tagsAt, spotsBelow, spotExpression}
 use Rattle.term.specs.Tree.{Term, Terms, int, node, end, _then_, words, wordsOf, count}
-use Rattle.term.proofs.Keep.{Choice, Keeps, KeepsAll, KeepsLet, KeepsClause}
+use Rattle.term.proofs.Keep.{Keeps, KeepsAll, KeepsLet}
 use Rattle.machine.specs.Value.{isValue}
 use Rattle.machine.specs.Place.{entered, working, workingIn, ready, replaced, replacedIn}
 use Rattle.machine.specs.Laws.{PidIn, PidAmong}
-use Rattle.machine.proofs.Sits.{Stands, spotsUnder, Sits, SitAll}
+use Rattle.machine.proofs.Sits.{spotsUnder, Sits, SitAll}
 use Rattle.machine.proofs.TagLaws.{outside-expression, Below, same, case, receive, clause, below}
 use Rattle.machine.proofs.SitLaws.{under-expression}
 use Rattle.machine.proofs.Right.{Right}

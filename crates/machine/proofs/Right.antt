@@ -1,14 +1,13 @@
 -- Right terms: the trees of good controls. And values whose pids come from a given source.
 use Prim.Native.Nat.{ℕ, zero, suc}
-use mathlib.Core.Path.{_≡_}
-use mathlib.Core.Logic.{_⊎_, inl, inr}
+use mathlib.Core.Logic.{inl, inr}
 use mathlib.Core.List.{List, []}
 use lib.ListN.{replicate}
 use Rattle.term.specs.Table.{spotExpression, spotValue}
-use Rattle.term.specs.Tree.{Term, Terms, int, node, end, _then_}
+use Rattle.term.specs.Tree.{Term, Terms, node, end, _then_}
 use Rattle.term.proofs.Keep.{Keeps}
 use Rattle.machine.specs.Laws.{PidIn, PidAmong}
-use Rattle.machine.proofs.Sits.{Sits, SitAll, Stands}
+use Rattle.machine.proofs.Sits.{Sits, SitAll}
 use Rattle.machine.proofs.TagLaws.{value-tag}
 use Rattle.machine.proofs.SitLaws.{under-value, value-expression, value-keeps}
 use Rattle.machine.proofs.MatchLaws.{Each}

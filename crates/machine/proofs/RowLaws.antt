@@ -1,27 +1,27 @@
 -- Rows and the terms that sit at spots: their words are read as them, and pass the shape test; and what passes it is the words of such
 -- terms. An integer's two's complement may be any number here, so nothing is asked of the words.
 use Prim.Native.Nat.{ℕ, zero, suc, _+_, _<_, _≤_, pred}
-use mathlib.Core.Path.{_≡_, refl, sym, _∙_, ap, subst}
-use mathlib.Core.Logic.{_⊎_, inl, inr}
-use mathlib.Core.Bool.{Bool, true, false, _&&_}
-use mathlib.Core.Option.{Option, none, some}
+use mathlib.Core.Path.{_≡_, refl, sym, _∙_, ap}
+use mathlib.Core.Logic.{inl, inr}
+use mathlib.Core.Bool.{Bool, true, _&&_}
+use mathlib.Core.Option.{none, some}
 use mathlib.Core.List.{List, [], _∷_, _++_, append-assoc, append-nil}
 use native.Mathlib.Omega.{arith}
 use native.Mathlib.Nat.{zero-add, suc-add}
 use native.Mathlib.Decide.{ℕ-discrete, decLt}
-use lib.Dec.{eqb, leb, ltb}
+use lib.Dec.{eqb, leb}
 use lib.ListN.{length, getD, replicate, List·getD-eq-default}
-use Rattle.lists.specs.Lists.{member, All}
-use Rattle.lists.proofs.Tests.{eqb-true, eqb-of, eqb-apart, leb-true, leb-of, ltb-of, and-left, and-right, and-of, true-or-false, none-not-some, cond-true, cond-false}
+use Rattle.lists.specs.Lists.{member}
+use Rattle.lists.proofs.Tests.{eqb-true, leb-true, leb-of, ltb-of, and-left, and-right, and-of, true-or-false, none-not-some}
 use Rattle.term.specs.Words.{word, tagOf, nOf, kOf, integerWord, tagInteger, tagPid}
-use Rattle.term.specs.Table.{Children, Row, row, alike, body, ofClause, ofCase, ofReceive, noRow, table, rowOf, arity, tagsAt, kLimit, fits, childSpots, spotFunction, spotExpression}
+use Rattle.term.specs.Table.{Row, noRow, table, rowOf, arity, tagsAt, kLimit, fits, childSpots, spotFunction}
 use Rattle.term.specs.Tree.{Term, Terms, int, node, end, _then_, words, wordsOf, count, first, rest, Head}
 use Rattle.term.specs.Read.{before, read, termsOf, theTerm, termOf}
-use Rattle.term.specs.Shape.{wanted, shape, shapePayload, moduleShape, controlShape}
+use Rattle.term.specs.Shape.{wanted, shape, shapePayload, moduleShape}
 use Rattle.term.proofs.WordLaws.{tag-word, n-word, k-word, word-parts, not-integer, k-small}
-use Rattle.term.proofs.TreeLaws.{words-one, words-split, count-first}
+use Rattle.term.proofs.TreeLaws.{words-one, words-split}
 use Rattle.term.proofs.ReadLaws.{allBefore, all-before-end, all-before-then, under-all, read-node}
-use Rattle.term.proofs.ShapeLaws.{Fits, fits-parts, child-count, integer-word, shape-integer, shape-node, shape-misfit, rounds}
+use Rattle.term.proofs.ShapeLaws.{fits-parts, child-count, integer-word, shape-integer, shape-node, shape-misfit, rounds}
 use Rattle.machine.proofs.Sits.{Stands, spotsUnder, Sits, SitAll}
 
 -- every row of the table has a small n and k

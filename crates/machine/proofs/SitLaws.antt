@@ -1,17 +1,17 @@
 -- Terms at spots: values may stand wherever a variable may; what stands in a module may stand in a control; what values are.
-use Prim.Native.Nat.{ℕ, zero, suc, _<_, _≤_}
-use mathlib.Core.Path.{_≡_, refl, sym, _∙_, ap, subst}
-use mathlib.Core.Logic.{_⊎_, inl, inr}
-use mathlib.Core.Bool.{Bool, true, false, cond, not, _&&_}
+use Prim.Native.Nat.{ℕ, zero, suc, _<_}
+use mathlib.Core.Path.{_≡_, refl, _∙_}
+use mathlib.Core.Logic.{inl, inr}
+use mathlib.Core.Bool.{Bool, true, false, _&&_}
 use mathlib.Core.List.{List, [], _∷_}
 use native.Mathlib.Omega.{arith}
-use lib.Dec.{eqb, leb, ltb}
-use lib.ListN.{getD, replicate}
+use lib.Dec.{eqb, leb}
+use lib.ListN.{replicate}
 use Rattle.lists.specs.Lists.{member, All}
-use Rattle.lists.proofs.Tests.{eqb-of, eqb-apart, true-or-false, true-not-false, and-left, and-right}
+use Rattle.lists.proofs.Tests.{eqb-of, true-or-false, true-not-false, and-left, and-right}
 use Rattle.lists.proofs.Members.{member-all}
-use Rattle.term.specs.Words.{tagVariable, tagAtom, tagInteger, tagPid, tagTuple, tagCall, tagLet, tagClause}
-use Rattle.term.specs.Table.{Children, alike, Row, table, rowOf, tagsAt, kLimit, ownSpot, spotsBelow, spotExpression, spotPattern, spotGuard, spotClause, spotValue}
+use Rattle.term.specs.Words.{tagVariable, tagAtom, tagInteger, tagPid, tagTuple}
+use Rattle.term.specs.Table.{alike, rowOf, tagsAt, kLimit, ownSpot, spotsBelow, spotExpression, spotGuard, spotValue}
 use Rattle.term.specs.Tree.{Term, Terms, int, node, end, _then_}
 use Rattle.term.proofs.Keep.{Keeps, KeepsAll}
 use Rattle.machine.specs.Value.{isValue, areValues}

@@ -5,7 +5,7 @@ use mathlib.Core.Bool.{true}
 use mathlib.Core.List.{List, [], _∷_}
 use Rattle.lists.specs.Lists.{member}
 use Rattle.term.specs.Words.{tagInteger}
-use Rattle.term.specs.Table.{Row, rowOf, tagsAt, kLimit, spotsBelow}
+use Rattle.term.specs.Table.{rowOf, tagsAt, kLimit, spotsBelow}
 use Rattle.term.specs.Tree.{Term, Terms, int, node, end, _then_}
 
 -- a word of this tag, n and k may stand at a spot

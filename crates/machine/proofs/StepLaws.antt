@@ -1,18 +1,18 @@
 -- What each kind of term, at the working place, makes: right terms, whose pids stood in it.
-use Prim.Native.Nat.{ℕ, zero, suc, _<_, _≤_}
-use mathlib.Core.Path.{_≡_, refl, sym, _∙_, ap, subst}
+use Prim.Native.Nat.{ℕ, zero, suc, _≤_}
+use mathlib.Core.Path.{_≡_, refl, sym, _∙_, ap}
 use mathlib.Core.Logic.{_⊎_, inl, inr}
-use mathlib.Core.Bool.{Bool, true, false, _&&_}
+use mathlib.Core.Bool.{true, false}
 use mathlib.Core.Option.{Option, none, some}
 use mathlib.Core.List.{List, [], _∷_}
 use native.Mathlib.Omega.{arith}
 use lib.Dec.{eqb}
 use lib.ListN.{replicate, length-replicate}
 use Rattle.lists.specs.Lists.{member, upTo}
-use Rattle.lists.proofs.Tests.{true-or-false, true-not-false, none-not-some, some-injective, and-of, choose, choose-false}
-use Rattle.term.specs.Words.{tagPid, tagCall, tagApply, tagCase, tagLet, tagReceive, tagSpawn, tagSend, tagCheck}
-use Rattle.term.specs.Table.{alike, Row, table, rowOf, tagsAt, kLimit, ownSpot, spotsBelow, spotExpression, spotClause, spotValue}
-use Rattle.term.specs.Tree.{Term, Terms, int, node, end, _then_, count}
+use Rattle.lists.proofs.Tests.{true-or-false, true-not-false, none-not-some, some-injective, and-of, choose-false}
+use Rattle.term.specs.Words.{tagApply, tagCase, tagLet, tagReceive, tagSpawn}
+use Rattle.term.specs.Table.{alike, table, rowOf, tagsAt, kLimit, ownSpot, spotsBelow, spotExpression, spotValue}
+use Rattle.term.specs.Tree.{Term, Terms, node, end, _then_, count}
 use Rattle.term.specs.Binding.{names, keepsRule}
 use Rattle.term.specs.Module.{parametersOf, bodyOf, aritiesOf, functionOf}
 use Rattle.term.proofs.Keep.{Keeps, KeepsAll, KeepsLet}
@@ -23,15 +23,15 @@ use Rattle.machine.specs.Clauses.{firstClause}
 use Rattle.machine.specs.Place.{entered, ready}
 use Rattle.machine.specs.Work.{bodyWith, caseGives, letGives}
 use Rattle.machine.specs.Laws.{PidIn, PidAmong}
-use Rattle.machine.proofs.Sits.{Stands, spotsUnder, Sits, SitAll}
-use Rattle.machine.proofs.SitLaws.{under-expression, is-value, are-values, lift, lift-all, no-pid}
+use Rattle.machine.proofs.Sits.{Sits, SitAll}
+use Rattle.machine.proofs.SitLaws.{under-expression, is-value, are-values, lift, no-pid}
 use Rattle.machine.proofs.BindLaws.{none-or-some}
-use Rattle.machine.proofs.MatchLaws.{Binds, binds-nothing, binds-with, parameters-binds}
+use Rattle.machine.proofs.MatchLaws.{binds-nothing, binds-with, parameters-binds}
 use Rattle.machine.proofs.Right.{Right, ValueFrom, values-from}
-use Rattle.machine.proofs.PlaceLaws.{Ready, ready-past}
+use Rattle.machine.proofs.PlaceLaws.{ready-past}
 use Rattle.machine.proofs.ClauseLaws.{Body, bound-body, first-body}
 use Rattle.machine.proofs.RowLaws.{sit-count}
-use Rattle.machine.proofs.ModuleLaws.{GoodBody, GoodModule, named}
+use Rattle.machine.proofs.ModuleLaws.{GoodModule, named}
 
 -- children that are gone into are values, where the term is ready
 ready-head : (t : Term) (ts : Terms) (m : ℕ) → ready (t then ts) (suc m) ≡ true → (isValue t ≡ true) × (ready ts m ≡ true)

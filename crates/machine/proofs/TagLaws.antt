@@ -1,18 +1,14 @@
 -- What the table says of the tags that stand at each spot.
-use Prim.Native.Nat.{ℕ, zero, suc, _<_, _≤_}
-use mathlib.Core.Path.{_≡_, refl, sym, _∙_, ap, subst}
-use mathlib.Core.Logic.{_⊎_, inl, inr}
+use Prim.Native.Nat.{ℕ, zero, suc}
+use mathlib.Core.Path.{_≡_, refl}
 use mathlib.Core.Bool.{Bool, true, false, cond, _&&_}
 use mathlib.Core.List.{List, [], _∷_}
-use native.Mathlib.Omega.{arith}
 use lib.Dec.{eqb, leb}
-use lib.ListN.{replicate}
 use Rattle.lists.specs.Lists.{member, All}
-use Rattle.lists.proofs.Tests.{eqb-apart, true-or-false}
 use Rattle.lists.proofs.Members.{member-all}
-use Rattle.term.specs.Words.{tagVariable, tagAtom, tagInteger, tagPid, tagTuple, tagCall, tagApply, tagCase, tagLet, tagReceive, tagSpawn, tagSend, tagClause}
-use Rattle.term.specs.Table.{Children, alike, body, ofClause, ofCase, ofReceive, Row, table, rowOf, tagsAt, kLimit, ownSpot, spotsBelow, spotExpression, spotPattern, spotGuard, spotClause, spotValue}
-use Rattle.term.specs.Binding.{keepsRule, names}
+use Rattle.term.specs.Words.{tagVariable, tagAtom, tagTuple, tagCall, tagCase, tagLet, tagReceive, tagClause}
+use Rattle.term.specs.Table.{alike, table, rowOf, tagsAt, ownSpot, spotExpression, spotGuard, spotClause, spotValue}
+use Rattle.term.specs.Binding.{keepsRule}
 
 -- the spots outside patterns in a control
 abbrev pub outsideSpots : List ℕ

@@ -1,22 +1,21 @@
 -- What a step makes of a good control, in a good module.
-use Prim.Native.Nat.{ℕ, zero, suc, _<_, _≤_}
-use mathlib.Core.Path.{_≡_, refl, sym, _∙_, ap, subst}
+use Prim.Native.Nat.{ℕ, _<_, _≤_}
+use mathlib.Core.Path.{_≡_, refl, sym, ap, subst}
 use mathlib.Core.Logic.{_⊎_, inl, inr}
 use mathlib.Core.Bool.{Bool, true, false, cond}
 use mathlib.Core.Option.{Option, none, some}
-use mathlib.Core.List.{List, [], _∷_}
+use mathlib.Core.List.{List}
 use native.Mathlib.Omega.{arith}
 use lib.Dec.{eqb}
 use lib.ListN.{length, replicate}
-use Rattle.lists.proofs.Tests.{eqb-true, eqb-apart, true-or-false, none-not-some, some-injective, choose, choose-true, choose-false}
-use Rattle.term.specs.Words.{word, tagPid, tagCall, tagApply, tagCase, tagLet, tagReceive, tagSpawn, tagSend, tagSelf, tagCheck}
-use Rattle.term.specs.Table.{Row, table, rowOf, tagsAt, kLimit, spotsBelow, spotExpression, spotValue}
+use Rattle.lists.proofs.Tests.{eqb-true, eqb-apart, true-or-false, none-not-some, some-injective, choose-true, choose-false}
+use Rattle.term.specs.Words.{tagPid, tagCall, tagApply, tagCase, tagLet, tagReceive, tagSpawn, tagSend, tagSelf, tagCheck}
+use Rattle.term.specs.Table.{table, rowOf, tagsAt, kLimit, spotsBelow, spotExpression, spotValue}
 use Rattle.lists.specs.Lists.{member}
 use Rattle.term.specs.Binding.{keepsRule}
 use Rattle.term.proofs.Keep.{Keeps, KeepsAll}
 use Rattle.term.specs.Tree.{Term, Terms, int, node, end, _then_, words, wordsOf}
 use Rattle.term.specs.Read.{termOf, termsOf}
-use Rattle.term.specs.Shape.{shape}
 use Rattle.term.specs.Module.{aritiesOf, functionOf, checkModule}
 use Rattle.term.specs.Control.{moduleArities}
 use Rattle.machine.specs.Value.{isValue, atom, pid}
@@ -25,13 +24,12 @@ use Rattle.machine.specs.Clauses.{firstClause}
 use Rattle.machine.specs.Place.{entered, working, ready, replaced}
 use Rattle.machine.specs.Work.{Work, finished, stuck, toSeq, toSend, toReceive, toSpawn, toSelf, toCheck, next, nextSome, seqOr, bodyWith, caseGives, letGives, sendTo, sendWork, workAt, workOf, work}
 use Rattle.machine.specs.Laws.{PidIn, PidAmong, Holds, Good, GoodValue, AfterSeq, AfterSend, AfterReceive, AfterPid, AsChild, WorkLaws}
-use Rattle.machine.proofs.Sits.{Stands, Sits, SitAll}
-use Rattle.machine.proofs.SitLaws.{value-expression}
+use Rattle.machine.proofs.Sits.{Sits, SitAll}
 use Rattle.machine.proofs.Right.{Right, value-right}
 use Rattle.machine.proofs.PlaceLaws.{Ready, working-right, working-ready, working-pid, working-size, replaced-right, replaced-pid, replaced-size}
-use Rattle.machine.proofs.OperatorLaws.{Plain, operator-plain, atom-plain, pid-value}
+use Rattle.machine.proofs.OperatorLaws.{operator-plain, atom-plain, pid-value}
 use Rattle.machine.proofs.ClauseLaws.{Body}
-use Rattle.machine.proofs.RowLaws.{OneTerm, passes-term, term-passes, term-of-words}
+use Rattle.machine.proofs.RowLaws.{passes-term, term-passes}
 use Rattle.machine.proofs.ControlLaws.{Control, good-right, right-good, holds-term}
 use Rattle.machine.proofs.ModuleLaws.{GoodModule, good-module}
 use Rattle.machine.proofs.StepLaws.{values-below, first-two, child-right, apply-body, case-body, let-body, receive-body}
@@ -167,12 +165,14 @@ module _ (module′ : List ℕ) (places : ℕ) (some-place : eqb places 0 ≡ fa
       at-spawn : Right places arities (place tagSpawn) → length (words (place tagSpawn)) ≤ length (words t) → Fine module′ places control (toSpawn (words (node tagApply n k ts)) (λ p. next t (pid p)))
       unfolding Fine words Holds Good moduleArities PidIn
       at-spawn r b =
-          let c = child-right places arities n k ts r in
-          (record {
-            good = right-good places arities few-places (node tagApply n k ts) c;
-            fits = (let w = same-length in omega arith);
-            pids = λ q h. elim (holds-term places arities few-places (node tagApply n k ts) spotExpression q (c .sits) h) [ inl own ↦ (let z : _≡_ {A = ℕ} 9 4 = own .0 in absurd (omega arith)) | inr among ↦ within q among ];
-          }, after-pid)
+          let c = child-right places arities n k ts r in (
+            record {
+              good = right-good places arities few-places (node tagApply n k ts) c;
+              fits = (let w = same-length in omega arith);
+              pids = λ q h. elim (holds-term places arities few-places (node tagApply n k ts) spotExpression q (c .sits) h) [ inl own ↦ (let z : _≡_ {A = ℕ} 9 4 = own .0 in absurd (omega arith)) | inr among ↦ within q among ];
+            },
+            after-pid,
+          )
 
       at-send : Right places arities (place tagSend) → ready ts (entered tagSend ts) ≡ true → Fine module′ places control (sendWork t ts)
       unfolding entered rowOf table

@@ -1,13 +1,13 @@
 -- `binds` and `keeps` go through a term exactly where it keeps the rules.
 use Prim.Native.Nat.{ℕ, suc, _+_}
-use mathlib.Core.Path.{_≡_, refl, sym, _∙_, ap, subst}
-use mathlib.Core.Logic.{_⊎_, inl, inr}
+use mathlib.Core.Path.{_≡_, refl, sym, _∙_, ap}
+use mathlib.Core.Logic.{inl, inr}
 use mathlib.Core.Bool.{Bool, true, false, cond, not, _&&_, _||_}
-use mathlib.Core.Option.{Option, none, some}
+use mathlib.Core.Option.{none}
 use mathlib.Core.List.{List, [], _∷_}
 use lib.Dec.{eqb}
 use Rattle.lists.specs.Lists.{member}
-use Rattle.lists.proofs.Tests.{true-or-false, none-not-some, true-not-false, choose, choose-true, choose-false}
+use Rattle.lists.proofs.Tests.{true-or-false, none-not-some, choose, choose-true, choose-false}
 use Rattle.term.specs.Words.{tagVariable, tagApply, tagSpawn, tagLet, tagCheck, tagClause}
 use Rattle.term.specs.Tree.{Term, Terms, int, node, end, _then_}
 use Rattle.term.specs.Binding.{Walk, breaks, passes, andThen, binds, bindsAll, names, keepsRule, checksAfter, keeps, keepsAll, keepsLet, keepsClause}
