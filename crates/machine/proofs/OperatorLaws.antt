@@ -10,6 +10,7 @@ use lib.IntN.{ℤ, _+ℤ_, _-ℤ_, _*ℤ_}
 use lib.Signed.{ltZ, leZ, quotZ, remZ}
 use Rattle.lists.specs.Lists.{member}
 use Rattle.lists.proofs.Tests.{none-not-some, some-injective}
+use Rattle.term.specs.Words.{tagAtom, tagInteger, tagPid}
 use Rattle.term.specs.Table.{table, rowOf, tagsAt, kLimit, spotsBelow, spotValue}
 use Rattle.term.specs.Tree.{Term, Terms, int, node, end, _then_}
 use Rattle.machine.specs.Value.{sameTerm, truth, atom, pid}
@@ -24,15 +25,15 @@ pub record Plain (places : ℕ) (t : Term) : Type 0 where
 
 pub atom-value : (places k : ℕ) → k < 256 → Sits places spotValue (atom k)
 unfolding Sits SitAll tagsAt member rowOf table kLimit spotsBelow
-atom-value places k b = (record { no-integer = λ e. let z : _≡_ {A = ℕ} 2 3 = e in absurd (omega arith); tag-there = refl; least-n = omega arith; greatest-n = omega arith; k-below = b }, tt)
+atom-value places k b = (record { no-integer = λ e. let z : tagAtom ≡ tagInteger = e in absurd (omega arith); tag-there = refl; least-n = omega arith; greatest-n = omega arith; k-below = b }, tt)
 
 pub pid-value : (places p : ℕ) → p < places → Sits places spotValue (pid p)
 unfolding Sits SitAll tagsAt member rowOf table kLimit spotsBelow
-pid-value places p b = (record { no-integer = λ e. let z : _≡_ {A = ℕ} 4 3 = e in absurd (omega arith); tag-there = refl; least-n = omega arith; greatest-n = omega arith; k-below = b }, tt)
+pid-value places p b = (record { no-integer = λ e. let z : tagPid ≡ tagInteger = e in absurd (omega arith); tag-there = refl; least-n = omega arith; greatest-n = omega arith; k-below = b }, tt)
 
 pub atom-plain : (places k : ℕ) → k < 256 → Plain places (atom k)
 unfolding PidIn PidAmong
-atom-plain places k b = record { value = atom-value places k b; no-pids = λ q p. elim p [ inl own ↦ (let z : _≡_ {A = ℕ} 2 4 = own .0 in absurd (omega arith)) | inr among ↦ among ] }
+atom-plain places k b = record { value = atom-value places k b; no-pids = λ q p. elim p [ inl own ↦ (let z : tagAtom ≡ tagPid = own .0 in absurd (omega arith)) | inr among ↦ among ] }
 
 int-plain : (places x : ℕ) → Plain places (int x)
 unfolding Sits tagsAt member PidIn

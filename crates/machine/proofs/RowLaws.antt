@@ -13,7 +13,7 @@ use lib.Dec.{eqb, leb}
 use lib.ListN.{length, getD, replicate, List·getD-eq-default}
 use Rattle.lists.specs.Lists.{member}
 use Rattle.lists.proofs.Tests.{eqb-true, leb-true, leb-of, ltb-of, and-left, and-right, and-of, true-or-false, none-not-some}
-use Rattle.term.specs.Words.{word, tagOf, nOf, kOf, integerWord, tagInteger, tagPid}
+use Rattle.term.specs.Words.{word, tagOf, nOf, kOf, integerWord, tagInteger, tagPid, tagFunction}
 use Rattle.term.specs.Table.{Row, noRow, table, rowOf, arity, tagsAt, kLimit, fits, childSpots, spotFunction}
 use Rattle.term.specs.Tree.{Term, Terms, int, node, end, _then_, words, wordsOf, count, first, rest, Head}
 use Rattle.term.specs.Read.{before, read, termsOf, theTerm, termOf}
@@ -48,7 +48,7 @@ pub record Small (tag n k : ℕ) : Type 0 where
   pub n-small : n < 256
   pub k-small : k < 65536
 
-past-table : (tag : ℕ) → 19 ≤ tag → rowOf tag ≡ noRow
+past-table : (tag : ℕ) → tagFunction < tag → rowOf tag ≡ noRow
 unfolding rowOf table
 past-table tag h = List·getD-eq-default table noRow h
 
@@ -71,7 +71,7 @@ module _ (places : ℕ) (few-places : places ≤ 65536) where
             record { tag-small = omega arith; n-small = n-small; k-small = omega arith }
         | inr e ↦
             let b : k < r .limit = rw e at (w .k-below) in
-            record { tag-small = elim (decLt tag 19) [ yes t ↦ omega arith | no t ↦ (let z : k < 0 = rw (past-table tag (omega arith)) at b in absurd (omega arith)) ]; n-small = n-small; k-small = omega arith }
+            record { tag-small = elim (decLt tag (suc tagFunction)) [ yes t ↦ omega arith | no t ↦ (let z : k < 0 = rw (past-table tag (omega arith)) at b in absurd (omega arith)) ]; n-small = n-small; k-small = omega arith }
       ]
 
   -- what stands by its parts fits by its word

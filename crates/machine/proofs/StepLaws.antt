@@ -10,7 +10,7 @@ use lib.Dec.{eqb}
 use lib.ListN.{replicate, length-replicate}
 use Rattle.lists.specs.Lists.{member, upTo}
 use Rattle.lists.proofs.Tests.{true-or-false, true-not-false, none-not-some, some-injective, and-of, choose-false}
-use Rattle.term.specs.Words.{tagApply, tagCase, tagLet, tagReceive, tagSpawn}
+use Rattle.term.specs.Words.{tagInteger, tagApply, tagCase, tagLet, tagReceive, tagSpawn}
 use Rattle.term.specs.Table.{alike, table, rowOf, tagsAt, kLimit, ownSpot, spotsBelow, spotExpression, spotValue}
 use Rattle.term.specs.Tree.{Term, Terms, node, end, _then_, count}
 use Rattle.term.specs.Binding.{names, keepsRule}
@@ -64,7 +64,7 @@ unfolding Sits Keeps keepsRule tagsAt member rowOf table kLimit spotsBelow ownSp
 child-right places arities n k ts r =
     let w = r .sits .0 in
     record {
-      sits = (record { no-integer = λ e. let z : _≡_ {A = ℕ} 9 3 = e in absurd (omega arith); tag-there = refl; least-n = w .least-n; greatest-n = w .greatest-n; k-below = w .k-below }, r .sits .1);
+      sits = (record { no-integer = λ e. let z : tagApply ≡ tagInteger = e in absurd (omega arith); tag-there = refl; least-n = w .least-n; greatest-n = w .greatest-n; k-below = w .k-below }, r .sits .1);
       keeps = (r .keeps .0, r .keeps .1);
     }
 

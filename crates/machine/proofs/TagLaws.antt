@@ -6,7 +6,7 @@ use mathlib.Core.List.{List, [], _∷_}
 use lib.Dec.{eqb, leb}
 use Rattle.lists.specs.Lists.{member, All}
 use Rattle.lists.proofs.Members.{member-all}
-use Rattle.term.specs.Words.{tagVariable, tagAtom, tagTuple, tagCall, tagCase, tagLet, tagReceive, tagClause}
+use Rattle.term.specs.Words.{tagVariable, tagAtom, tagPid, tagCons, tagTuple, tagCall, tagCase, tagLet, tagReceive, tagClause}
 use Rattle.term.specs.Table.{alike, table, rowOf, tagsAt, ownSpot, spotExpression, spotGuard, spotClause, spotValue}
 use Rattle.term.specs.Binding.{keepsRule}
 
@@ -74,7 +74,7 @@ below-guard : (places : ℕ) → All (Below spotGuard) (tagsAt places spotGuard)
 unfolding All tagsAt member rowOf table ownSpot
 below-guard places = same refl refl also same refl refl also same refl refl also same refl refl also same refl refl also more (eqb places 0)
   where
-    more : (b : Bool) → All (Below spotGuard) (cond b [] (4 ∷ 6 ∷ 7 ∷ []))
+    more : (b : Bool) → All (Below spotGuard) (cond b [] (tagPid ∷ tagCons ∷ tagTuple ∷ []))
     more true = tt
     more false = same refl refl also same refl refl also same refl refl also tt
 

@@ -9,7 +9,7 @@ use native.Mathlib.Omega.{arith}
 use lib.Dec.{eqb}
 use lib.ListN.{length, replicate}
 use Rattle.lists.proofs.Tests.{eqb-true, eqb-apart, true-or-false, none-not-some, some-injective, choose-true, choose-false}
-use Rattle.term.specs.Words.{tagPid, tagCall, tagApply, tagCase, tagLet, tagReceive, tagSpawn, tagSend, tagSelf, tagCheck}
+use Rattle.term.specs.Words.{tagInteger, tagPid, tagCall, tagApply, tagCase, tagLet, tagReceive, tagSpawn, tagSend, tagSelf, tagCheck}
 use Rattle.term.specs.Table.{table, rowOf, tagsAt, kLimit, spotsBelow, spotExpression, spotValue}
 use Rattle.lists.specs.Lists.{member}
 use Rattle.term.specs.Binding.{keepsRule}
@@ -169,7 +169,7 @@ module _ (module′ : List ℕ) (places : ℕ) (some-place : eqb places 0 ≡ fa
             record {
               good = right-good places arities few-places (node tagApply n k ts) c;
               fits = (let w = same-length in omega arith);
-              pids = λ q h. elim (holds-term places arities few-places (node tagApply n k ts) spotExpression q (c .sits) h) [ inl own ↦ (let z : _≡_ {A = ℕ} 9 4 = own .0 in absurd (omega arith)) | inr among ↦ within q among ];
+              pids = λ q h. elim (holds-term places arities few-places (node tagApply n k ts) spotExpression q (c .sits) h) [ inl own ↦ (let z : tagApply ≡ tagPid = own .0 in absurd (omega arith)) | inr among ↦ within q among ];
             },
             after-pid,
           )
@@ -216,7 +216,7 @@ firstTerm = node tagApply 0 0 end
 first-right : (places : ℕ) (functions : Terms) → GoodModule functions → Right places (aritiesOf functions) firstTerm
 unfolding Sits SitAll Keeps KeepsAll keepsRule tagsAt member rowOf table kLimit spotsBelow
 first-right places functions good = record {
-  sits = (record { no-integer = λ e. let z : _≡_ {A = ℕ} 9 3 = e in absurd (omega arith); tag-there = refl; least-n = omega arith; greatest-n = omega arith; k-below = omega arith }, tt);
+  sits = (record { no-integer = λ e. let z : tagApply ≡ tagInteger = e in absurd (omega arith); tag-there = refl; least-n = omega arith; greatest-n = omega arith; k-below = omega arith }, tt);
   keeps = (good .first-named, tt);
 }
 
@@ -238,7 +238,7 @@ module _ (module′ : List ℕ) (places : ℕ) (checked : checkModule module′ 
       let r = first-right places (termsOf module′) good in
       record {
         first-good = right-good places (aritiesOf (termsOf module′)) few-places firstTerm r;
-        first-pids = λ q h. elim (holds-term places (aritiesOf (termsOf module′)) few-places firstTerm spotExpression q (r .sits) h) [ inl own ↦ (let z : _≡_ {A = ℕ} 9 4 = own .0 in absurd (omega arith)) | inr among ↦ among ];
+        first-pids = λ q h. elim (holds-term places (aritiesOf (termsOf module′)) few-places firstTerm spotExpression q (r .sits) h) [ inl own ↦ (let z : tagApply ≡ tagPid = own .0 in absurd (omega arith)) | inr among ↦ among ];
         seq = λ {control} g e. fine-as control g e;
         send = λ {control} g e. fine-as control g e;
         receive = λ {control} {value} {next} g v e t. fine-as control g e value next v t;
