@@ -1,3 +1,3 @@
 pub mod Tests
 pub mod Tables
-pub mod Members
+pub mod MemberTest

@@ -10,7 +10,7 @@ use lib.Dec.{eqb}
 use lib.ListN.{replicate}
 use Rattle.lists.specs.Lists.{member, All}
 use Rattle.lists.proofs.Tests.{eqb-true, eqb-of, true-or-false, true-not-false, not-true, choose-true, choose-false}
-use Rattle.lists.proofs.Members.{member-here, member-there, member-cons, all-replicate}
+use Rattle.lists.proofs.MemberTest.{member-here, member-there, member-cons, all-replicate}
 use Rattle.term.specs.Words.{tagVariable, tagApply, tagSpawn, tagLet, tagCheck, tagClause}
 use Rattle.term.specs.Table.{alike, table, rowOf, ownSpot, spotsBelow, spotExpression, spotPattern, spotGuard, spotClause, spotValue}
 use Rattle.term.specs.Tree.{Term, Terms, int, node, end, _then_}

@@ -9,7 +9,7 @@ use lib.Dec.{eqb}
 use lib.ListN.{replicate}
 use Rattle.lists.specs.Lists.{member}
 use Rattle.lists.proofs.Tests.{true-or-false, none-not-some, some-injective, choose-true, choose-false}
-use Rattle.lists.proofs.Members.{member-cons, member-none}
+use Rattle.lists.proofs.MemberTest.{member-cons, member-none}
 use Rattle.term.specs.Words.{tagClause}
 use Rattle.term.specs.Table.{table, rowOf, tagsAt, spotsBelow, spotExpression, spotPattern, spotGuard, spotClause, spotValue}
 use Rattle.term.specs.Tree.{Term, Terms, int, node, end, _then_}

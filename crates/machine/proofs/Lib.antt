@@ -8,6 +8,7 @@ pub mod PlaceLaws
 pub mod OperatorLaws
 pub mod ClauseLaws
 pub mod RowLaws
+pub mod FitLaws
 pub mod ControlLaws
 pub mod ModuleLaws
 pub mod StepLaws

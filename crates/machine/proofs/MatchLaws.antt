@@ -11,7 +11,7 @@ use native.Mathlib.Decide.{ℕ-discrete}
 use lib.Dec.{eqb}
 use Rattle.lists.specs.Lists.{member, upTo}
 use Rattle.lists.proofs.Tests.{eqb-of, eqb-apart, true-or-false, none-not-some, some-injective, cond-true, cond-false, choose-true, choose-false}
-use Rattle.lists.proofs.Members.{member-here, member-there, member-cons, member-none, upTo-below, below-upTo}
+use Rattle.lists.proofs.MemberTest.{member-here, member-there, member-cons, member-none, upTo-below, below-upTo}
 use Rattle.term.specs.Words.{tagVariable}
 use Rattle.term.specs.Tree.{Term, Terms, int, node, end, _then_, count}
 use Rattle.term.proofs.Keep.{opens, opensAll}

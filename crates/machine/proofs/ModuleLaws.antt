@@ -9,7 +9,7 @@ use lib.Dec.{eqb, ltb}
 use lib.ListN.{length, getElem?, replicate}
 use Rattle.lists.specs.Lists.{member, upTo}
 use Rattle.lists.proofs.Tests.{eqb-true, true-or-false, true-not-false, none-not-some, some-injective, choose-true, choose-false}
-use Rattle.lists.proofs.Members.{member-cons, member-none}
+use Rattle.lists.proofs.MemberTest.{member-cons, member-none}
 use Rattle.term.specs.Words.{tagFunction}
 use Rattle.term.specs.Table.{table, rowOf, tagsAt, spotsBelow, spotFunction, spotExpression}
 use Rattle.term.specs.Tree.{Term, Terms, int, node, end, _then_}

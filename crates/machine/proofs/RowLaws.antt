@@ -52,7 +52,7 @@ past-table : (tag : ℕ) → tagFunction < tag → rowOf tag ≡ noRow
 unfolding rowOf table
 past-table tag h = List·getD-eq-default table noRow h
 
-int-fits : (places s : ℕ) → member tagInteger (tagsAt places s) ≡ true → fits places s integerWord ≡ true
+pub int-fits : (places s : ℕ) → member tagInteger (tagsAt places s) ≡ true → fits places s integerWord ≡ true
 unfolding fits rowOf table kLimit
 int-fits places s m = rw m refl
 

@@ -9,7 +9,7 @@ use lib.Dec.{eqb, leb}
 use lib.ListN.{replicate}
 use Rattle.lists.specs.Lists.{member, All}
 use Rattle.lists.proofs.Tests.{eqb-of, true-or-false, true-not-false, and-left, and-right}
-use Rattle.lists.proofs.Members.{member-all}
+use Rattle.lists.proofs.MemberTest.{member-all}
 use Rattle.term.specs.Words.{tagVariable, tagAtom, tagInteger, tagPid, tagTuple}
 use Rattle.term.specs.Table.{alike, rowOf, tagsAt, kLimit, ownSpot, spotsBelow, spotExpression, spotGuard, spotValue}
 use Rattle.term.specs.Tree.{Term, Terms, int, node, end, _then_}

@@ -5,7 +5,7 @@ use mathlib.Core.Bool.{Bool, true, false, cond, _&&_}
 use mathlib.Core.List.{List, [], _∷_}
 use lib.Dec.{eqb, leb}
 use Rattle.lists.specs.Lists.{member, All}
-use Rattle.lists.proofs.Members.{member-all}
+use Rattle.lists.proofs.MemberTest.{member-all}
 use Rattle.term.specs.Words.{tagVariable, tagAtom, tagPid, tagCons, tagTuple, tagCall, tagCase, tagLet, tagReceive, tagClause}
 use Rattle.term.specs.Table.{alike, table, rowOf, tagsAt, ownSpot, spotExpression, spotGuard, spotClause, spotValue}
 use Rattle.term.specs.Binding.{keepsRule}

@@ -1,4 +1,4 @@
--- Laws of `member`.
+-- Laws of the test `member`, and of `All` on what passes it.
 use Prim.Native.Nat.{ℕ, zero, suc, _<_}
 use mathlib.Core.Path.{_≡_, refl, sym, subst}
 use mathlib.Core.Logic.{_⊎_, inl, inr}
