@@ -6,4 +6,6 @@ pub mod TableLaws
 pub mod RowLaws
 pub mod SpotLaws
 pub mod ShapeLaws
+pub mod Keep
+pub mod KeepLaws
 pub mod ReadingLaws
