@@ -52,7 +52,7 @@ module _ (places : ℕ) (arities : List ℕ) (few-places : places ≤ 65536) whe
   unfolding controlShape
   good-right l h = elim (none-or-some (controlShape places l)) [
     | inl o ↦
-        let r = passes-term places spotExpression l few-places o in
+        let r = passes-term places spotExpression l o in
         record { right = record { sits = r .sits; keeps = rules-kept arities (termOf l) (sym (good-by places arities l none o) ∙ h) }; same-words = r .same-words }
     | inr o ↦ true-not-false h (good-by places arities l (some (o .0)) (o .1))
   ]

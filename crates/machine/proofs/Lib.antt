@@ -7,8 +7,8 @@ pub mod Right
 pub mod PlaceLaws
 pub mod OperatorLaws
 pub mod ClauseLaws
-pub mod RowLaws
 pub mod FitLaws
+pub mod RowLaws
 pub mod ControlLaws
 pub mod ModuleLaws
 pub mod StepLaws

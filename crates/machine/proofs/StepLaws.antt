@@ -30,7 +30,7 @@ use Rattle.machine.proofs.MatchLaws.{binds-nothing, binds-with, paramet
 use Rattle.machine.proofs.Right.{Right, ValueFrom, values-from}
 use Rattle.machine.proofs.PlaceLaws.{ready-past}
 use Rattle.machine.proofs.ClauseLaws.{Body, bound-body, first-body}
-use Rattle.machine.proofs.RowLaws.{sit-count}
+use Rattle.machine.proofs.FitLaws.{sit-count}
 use Rattle.machine.proofs.ModuleLaws.{GoodModule, named}
 
 -- children that are gone into are values, where the term is ready

@@ -159,7 +159,7 @@ module _ (module′ : List ℕ) (places : ℕ) (some-place : eqb places 0 ≡ fa
       at-receive : Right places arities (place tagReceive) → Fine module′ places control (toReceive (λ v. nextSome t (firstClause (termOf v) ts)))
       unfolding Fine GoodValue
       at-receive r value row h e =
-          let o = passes-term places spotValue value few-places h in
+          let o = passes-term places spotValue value h in
           taken value (firstClause (termOf value) ts) row (λ new i. receive-body places few-places some-place functions good n k ts (termOf value) new r (o .sits) i) e
 
       at-spawn : Right places arities (place tagSpawn) → length (words (place tagSpawn)) ≤ length (words t) → Fine module′ places control (toSpawn (words (node tagApply n k ts)) (λ p. next t (pid p)))
