@@ -1,4 +1,5 @@
+pub mod Members
 pub mod Tests
 pub mod Tables
 pub mod Lists
-pub mod Members
+pub mod MemberTest

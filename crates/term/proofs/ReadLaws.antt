@@ -19,18 +19,18 @@ unfoldable pub allBefore : Terms → Option Terms → Option Terms
 allBefore ts none = none
 allBefore ts (some us) = some (ts andAll us)
 
-all-before-end : (o : Option Terms) → allBefore end o ≡ o
+pub all-before-end : (o : Option Terms) → allBefore end o ≡ o
 unfolding allBefore _andAll_
 all-before-end none = refl
 all-before-end (some us) = refl
 
-all-before-then : (t : Term) (ts : Terms) (o : Option Terms) → before t (allBefore ts o) ≡ allBefore (t then ts) o
+pub all-before-then : (t : Term) (ts : Terms) (o : Option Terms) → before t (allBefore ts o) ≡ allBefore (t then ts) o
 unfolding allBefore before _andAll_
 all-before-then t ts none = refl
 all-before-then t ts (some us) = refl
 
 -- the children that were read go under their word
-under-all : (tag n k : ℕ) (ts : Terms) → Head tag n k (count ts) → (o : Option Terms) → under (word tag n k) (allBefore ts o) ≡ before (node tag n k ts) o
+pub under-all : (tag n k : ℕ) (ts : Terms) → Head tag n k (count ts) → (o : Option Terms) → under (word tag n k) (allBefore ts o) ≡ before (node tag n k ts) o
 unfolding under allBefore before
 under-all tag n k ts h none = refl
 under-all tag n k ts h (some us) =
