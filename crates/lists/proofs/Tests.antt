@@ -123,3 +123,13 @@ cond-true x y e = rw e refl
 
 pub cond-false : {A : Type 0} {b : Bool} (x y : A) → b ≡ false → cond b x y ≡ y
 cond-false x y e = rw e refl
+
+-- a choice made by `elim`, which `cond` is not by computation
+abbrev pub choose : {A : Type 0} → Bool → A → A → A
+choose b x y = elim b [ true ↦ x | false ↦ y ]
+
+pub choose-true : {A : Type 0} {b : Bool} (x y : A) → b ≡ true → choose b x y ≡ x
+choose-true x y e = rw e refl
+
+pub choose-false : {A : Type 0} {b : Bool} (x y : A) → b ≡ false → choose b x y ≡ y
+choose-false x y e = rw e refl

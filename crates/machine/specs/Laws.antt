@@ -1,5 +1,6 @@
 -- What a step makes of a good control: the next control is good, and its pids come from the control, the message taken, the new child or
--- the process itself. `WorkLaws` is shown of every good module by `work-laws` of proofs/.
+-- the process itself. `WorkLaws` is shown of every good module, for 1 to 65536 places (a pid's number has 16 bits), by `work-laws` of
+-- proofs/WorkLaws.
 use Prim.Native.Nat.{ℕ, _≤_, _<_}
 use mathlib.Core.Path.{_≡_}
 use mathlib.Core.Logic.{_⊎_}

@@ -1,1 +1,11 @@
+pub mod WordLaws
+pub mod TreeLaws
+pub mod ReadLaws
 pub mod Fit
+pub mod TableLaws
+pub mod RowLaws
+pub mod SpotLaws
+pub mod ShapeLaws
+pub mod Keep
+pub mod KeepLaws
+pub mod ReadingLaws

@@ -1,0 +1,15 @@
+pub mod Sits
+pub mod TagLaws
+pub mod SitLaws
+pub mod BindLaws
+pub mod MatchLaws
+pub mod Right
+pub mod PlaceLaws
+pub mod OperatorLaws
+pub mod ClauseLaws
+pub mod RowLaws
+pub mod FitLaws
+pub mod ControlLaws
+pub mod ModuleLaws
+pub mod StepLaws
+pub mod WorkLaws
