@@ -8,6 +8,7 @@ use mathlib.Core.List.{List, [], _∷_}
 use native.Mathlib.Omega.{arith}
 use Rattle.term.specs.Module.{checkModule}
 use Rattle.machine.specs.Laws.{WorkLaws}
+use Rattle.machine.proofs.WorkLaws.{work-laws}
 use Rattle.causal.specs.Paths.{Run, done, more}
 use Rattle.causal.specs.Exec.{Step, runAll, ConsistencyOfRuns}
 use Rattle.causal.proofs.Exec.{of-run}
@@ -28,7 +29,7 @@ use Rattle.rules.proofs.Amount.{amount-grows}
 use Rattle.rules.proofs.Knows.{unspawns-apart, calm}
 use Rattle.rules.proofs.SoundControls.{LawsAt}
 use Rattle.rules.proofs.SoundStep.{sound-after}
-use Rattle.rules.proofs.SoundLoad.{Loads, loads-of, load-sound}
+use Rattle.rules.proofs.SoundLoad.{sizes-say, Loads, loads-of}
 use Rattle.rules.proofs.ExactlyOnce.{exactly-once}
 use Rattle.rules.proofs.Reached.{Reached, reached-load, reversed, reverse-opposite, reverse-forward, reverse-undelivered}
 use Rattle.rules.proofs.Steps.{Taken, taken, undo-runs, accepted-runs, goes-back, goes-forward, commuting, taken-apart, taken-independent, undos-apart}
@@ -94,12 +95,12 @@ module _ {s : State} (sound : Sound s) where
       record { after-t = a; after-u = b; end = c .end; t-first = p; then-u = c .then-u; u-first = q; then-t = c .then-t }
 
 -- ---- in every state reached from a load
-module _ (work-laws : (module′ : List ℕ) (sizes : Sizes) → goodSizes sizes ≡ true → checkModule module′ ≡ none → WorkLaws module′ (sizes .places)) where
+module _ (laws-of : (module′ : List ℕ) (sizes : Sizes) → goodSizes sizes ≡ true → checkModule module′ ≡ none → WorkLaws module′ (sizes .places)) where
   load-reached : {module′ : List ℕ} {sizes : Sizes} {s : State} → Loads module′ sizes s → Reached s
-  load-reached {module′} {sizes} l = subst Reached (l .is) (reached-load module′ sizes (work-laws module′ sizes (l .sizes-pass) (l .module-passes)) (l .sizes-pass) (l .module-passes))
+  load-reached {module′} {sizes} l = subst Reached (l .is) (reached-load module′ sizes (laws-of module′ sizes (l .sizes-pass) (l .module-passes)) (l .sizes-pass) (l .module-passes))
 
   laws-at : {s : State} → Sound s → LawsAt s
-  laws-at {s} sound = work-laws (s .module′) (s .sizes) (sound .sizes-pass) (sound .module-passes)
+  laws-at {s} sound = laws-of (s .module′) (s .sizes) (sound .sizes-pass) (sound .module-passes)
 
   run-reached : {s e : State} {ts : List Command} → Reached s → Run (Step runState) s ts e → Reached e
   run-reached r done = r
@@ -129,8 +130,8 @@ module _ (work-laws : (module′ : List ℕ) (sizes : Sizes) → goodSizes sizes
       let l = loads-of module′ sizes e in
       subst (ConsistencyOfRuns runState reverse Independent isForward amountDone Reached) (l .is) (consistent module′ sizes (subst Reached (sym (l .is)) (load-reached l)))
 
-  pub demands : Demands
-  demands = record {
+  demands-by : Demands
+  demands-by = record {
     rules = record {
       accepted-is-allowed = λ s c d w sound e. run-sound s (sound .pool-ends) c e;
       allowed-is-accepted = λ s d w a. run-complete a;
@@ -160,3 +161,12 @@ module _ (work-laws : (module′ : List ℕ) (sizes : Sizes) → goodSizes sizes
       forward-only = λ module′ sizes root e ts l p. runs module′ sizes l .forward-only ts e p;
     };
   }
+
+-- the laws of one process step hold in every module that loads
+laws-of-load : (module′ : List ℕ) (sizes : Sizes) → goodSizes sizes ≡ true → checkModule module′ ≡ none → WorkLaws module′ (sizes .places)
+laws-of-load module′ sizes good passes =
+    let say = sizes-say sizes good in
+    work-laws module′ (sizes .places) passes (say .some-place) (omega (arith, say .few-places))
+
+pub demands : Demands
+demands = demands-by laws-of-load

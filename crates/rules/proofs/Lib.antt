@@ -35,3 +35,4 @@ pub mod Steps
 pub mod Causal
 pub mod ExactlyOnce
 pub mod Demands
+pub mod Examples

@@ -25,6 +25,30 @@ use Rattle.rules.proofs.Histories.{Suffix, no-suffix, entry-suffix, nil
 use Rattle.rules.proofs.Frame.{no-process, in-pool, not-in-pool}
 use Rattle.rules.proofs.Positions.{Had, now, past}
 
+-- what sizes that pass say: a place at least, no more than 16, and room for the first control
+pub record SizesSay (sizes : Sizes) : Type 0 where
+  pub some-place : 1 ≤ sizes .places
+  pub few-places : sizes .places ≤ 16
+  pub enough-words : 16 ≤ sizes .words
+
+pub sizes-say : (sizes : Sizes) → goodSizes sizes ≡ true → SizesSay sizes
+unfolding goodSizes
+sizes-say sizes e =
+    let some-place = leb 1 (sizes .places) in
+    let few-places = leb (sizes .places) 16 in
+    let some-entry = leb 1 (sizes .entries) in
+    let few-entries = leb (sizes .entries) 64 in
+    let enough-words = leb 16 (sizes .words) in
+    let five = and-left (some-place && few-places && some-entry && few-entries && enough-words) (leb (sizes .words) 255) e in
+    let four = and-left (some-place && few-places && some-entry && few-entries) enough-words five in
+    let three = and-left (some-place && few-places && some-entry) few-entries four in
+    let two = and-left (some-place && few-places) some-entry three in
+    record {
+      some-place = leb-true 1 (sizes .places) (and-left some-place few-places two);
+      few-places = leb-true (sizes .places) 16 (and-right some-place few-places two);
+      enough-words = leb-true 16 (sizes .words) (and-right (some-place && few-places && some-entry && few-entries) enough-words five);
+    }
+
 -- what an accepted load says
 pub record Loads (module′ : List ℕ) (sizes : Sizes) (s : State) : Type 0 where
   pub sizes-pass : goodSizes sizes ≡ true
@@ -65,24 +89,13 @@ module _ (module′ : List ℕ) (sizes : Sizes) where
   unfolding loaded
   other-free p n = not-in-pool (loaded module′ sizes) p (put-other 0 (some (newProcess firstControl)) (λ p. none) p n)
 
-  -- the sizes that pass are at least one place, and room for the first control
-  sizes-say : goodSizes sizes ≡ true → (1 ≤ sizes .places) × (16 ≤ sizes .words)
-  unfolding goodSizes
-  sizes-say e =
-      let five = and-left (leb 1 (sizes .places) && leb (sizes .places) 16 && leb 1 (sizes .entries) && leb (sizes .entries) 64 && leb 16 (sizes .words)) (leb (sizes .words) 255) e in
-      let four = and-left (leb 1 (sizes .places) && leb (sizes .places) 16 && leb 1 (sizes .entries) && leb (sizes .entries) 64) (leb 16 (sizes .words)) five in
-      let three = and-left (leb 1 (sizes .places) && leb (sizes .places) 16 && leb 1 (sizes .entries)) (leb (sizes .entries) 64) four in
-      let two = and-left (leb 1 (sizes .places) && leb (sizes .places) 16) (leb 1 (sizes .entries)) three in
-      let one = and-left (leb 1 (sizes .places)) (leb (sizes .places) 16) two in
-      (leb-true 1 (sizes .places) one, leb-true 16 (sizes .words) (and-right (leb 1 (sizes .places) && leb (sizes .places) 16 && leb 1 (sizes .entries) && leb (sizes .entries) 64) (leb 16 (sizes .words)) five))
-
   pub loaded-sound : goodSizes sizes ≡ true → checkModule module′ ≡ none → WorkLaws module′ (sizes .places) → Sound (loaded module′ sizes)
   unfolding loaded Good inPool isProcess sent taken Flows distinct All
   loaded-sound good passes laws = record {
     sizes-pass = good;
     module-passes = passes;
     place-0 = in-pool (loaded module′ sizes) 0 (put-same 0 (some (newProcess firstControl)) (λ p. none) 0 refl);
-    pool-ends = λ p h. other-free p (λ e. omega (arith, sizes-say good .0, e, h));
+    pool-ends = λ p h. other-free p (λ e. omega (arith, sizes-say sizes good .some-place, e, h));
     no-queue-elsewhere = λ p n. refl;
     history-fits = λ p. rw (load-history p) (omega arith);
     controls = λ p a i. first (load-had {x = p} {control = a .control} {g = a .history} (now i) .0);
@@ -100,7 +113,7 @@ module _ (module′ : List ℕ) (sizes : Sizes) where
   }
     where
       first : {control : List ℕ} → control ≡ firstControl → SoundControl (loaded module′ sizes) control
-      first e = rw e (record { good = laws .first-good; fits = omega (arith, sizes-say good .1) })
+      first e = rw e (record { good = laws .first-good; fits = omega (arith, sizes-say sizes good .enough-words) })
 
 pub load-sound : (module′ : List ℕ) (sizes : Sizes) {s : State} → load module′ sizes ≡ loads s → WorkLaws module′ (sizes .places) → Sound s
 load-sound module′ sizes e laws = let l = loads-of module′ sizes e in subst Sound (l .is) (loaded-sound module′ sizes (l .sizes-pass) (l .module-passes) laws)
