@@ -7,6 +7,7 @@ pub mod Search
 pub mod Rollback
 pub mod EventDepends
 pub mod Never
+pub mod RollbackDemands
 pub mod Views
 pub mod Messages
 pub mod Histories

@@ -17,3 +17,4 @@ pub mod Opened
 pub mod Bench
 pub mod Cases
 pub mod Demands
+pub mod RollbackDemands
