@@ -16,5 +16,6 @@ pub mod Replies
 pub mod Opened
 pub mod Bench
 pub mod Cases
+pub mod RollbackCases
 pub mod Demands
 pub mod RollbackDemands
