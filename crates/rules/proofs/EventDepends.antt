@@ -102,7 +102,7 @@ spawn-is : {q : ℕ} (e : Entry) → asSpawn (e .kind) ≡ some q → isSpawnOf 
 unfolding isSpawnOf
 spawn-is {q} e i = rw (i, isSpawnOf) (eqb-same q)
 
-spawn-of : (q : ℕ) (e : Entry) → isSpawnOf q (some e) ≡ true → asSpawn (e .kind) ≡ some q
+pub spawn-of : (q : ℕ) (e : Entry) → isSpawnOf q (some e) ≡ true → asSpawn (e .kind) ≡ some q
 unfolding isSpawnOf
 spawn-of q e i = go (asSpawn (e .kind)) refl
   where
@@ -120,7 +120,7 @@ send-is : {l : Letter} {m : Message} (p : ℕ) (e : Entry) (g : List Entry) → 
 unfolding isSendOf
 send-is p e g i n = rw (i, isSendOf) (named-is n)
 
-send-of : {m : Message} (p : ℕ) (e : Entry) (g : List Entry) → isSendOf (some m) p (some e) g ≡ true → ((l : Letter) × (asSend (e .kind) ≡ some l)) × Named p (sends g) m
+pub send-of : {m : Message} (p : ℕ) (e : Entry) (g : List Entry) → isSendOf (some m) p (some e) g ≡ true → ((l : Letter) × (asSend (e .kind) ≡ some l)) × Named p (sends g) m
 unfolding isSendOf
 send-of {m} p e g i = go (asSend (e .kind)) refl
   where

@@ -8,6 +8,7 @@ pub mod Rollback
 pub mod EventDepends
 pub mod Never
 pub mod RollbackDemands
+pub mod CutNumbers
 pub mod Views
 pub mod Messages
 pub mod Histories
