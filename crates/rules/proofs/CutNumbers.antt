@@ -237,3 +237,114 @@ module _ (s : State) where
   on-of (deliveriesTo q) (deliveriesTo r) i j t =
       let u = depends-listed s (deliveriesTo q) (deliveriesTo r) i j t in
       subst (λ z. On s (deliveriesTo q) i (deliveriesTo z) j) (eqb-true q r (and-left (eqb q r) (ltb j i) u)) (later (ltb-true j i (and-right (eqb q r) (ltb j i) u)))
+
+-- ---- 01's list in numbers
+pub record Good (s : State) (k : Cut) : Type 0 where
+  -- a rec that stays has seen arrivals that stay; of one that goes all later arrivals go
+  pub saw-all : {p i : ℕ} {e : Entry} {g : List Entry} {a d : List Message} {m : Message} → Stands s p i e g → asRec (e .kind) ≡ some (taking a m d) → i < k (entriesOf p) → seen a m d g ≤ k (deliveriesTo p)
+  pub saw-none : {p i : ℕ} {e : Entry} {g : List Entry} {a d : List Message} {m : Message} → Stands s p i e g → asRec (e .kind) ≡ some (taking a m d) → k (entriesOf p) ≤ i → k (deliveriesTo p) ≤ seen a m d g
+  -- the send of an arrival that stays stays
+  pub mailed : {q i j : ℕ} {v : List ℕ} {e : Entry} {g : List Entry} {n : Message} → Arrives s q j n → Stands s (n .sender) i e g → asSend (e .kind) ≡ some (letter q v) → sends g ≡ n .count
+      → j < k (deliveriesTo q) → i < k (entriesOf (n .sender))
+  -- nothing stays of the child whose spawn goes
+  pub born : {p q i : ℕ} {e : Entry} {g : List Entry} → Stands s p i e g → asSpawn (e .kind) ≡ some q → k (entriesOf p) ≤ i → (k (entriesOf q) ≡ 0) × (k (deliveriesTo q) ≡ 0)
+
+or-else : {a b : ℕ} → (b ≤ a → ⊥) → a < b
+or-else {a} {b} f = elim (decLt a b) [ yes h ↦ h | no h ↦ absurd (f (omega arith)) ]
+
+letter-target : {a b : ℕ} {v w : List ℕ} → _≡_ {A = Option Letter} (some (letter a v)) (some (letter b w)) → a ≡ b
+letter-target e = cc
+
+module _ {s : State} (sound : Sound s) where
+  -- a message came to where it was sent
+  pub sent-to : {p q t i j : ℕ} {v : List ℕ} {e : Entry} {g : List Entry} {n : Message} → Arrives s q j n → Stands s p i e g → asSend (e .kind) ≡ some (letter t v) → Named p (sends g) n → t ≡ q
+  unfolding SentTo
+  sent-to {p} {q} {g = g} {n} r st is name =
+      let came = any-append (s .queues q) (any-come (historyAt s q) (s .queues q) (sound .prefixes q) .0 (subst (Any (Is n)) (sym (r .at) ∙ arrivals-at sound q) (any-middle (r .before) n (r .after) refl))) in
+      let out : sent (historyAt s (n .sender)) (n .count) ≡ some (letter q (n .value)) = mail sound q (elim came [ inl x ↦ inl x | inr x ↦ inr x ]) in
+      letter-target (sym (suffix-sent (st .at) is) ∙ subst₂ (λ a b. sent (historyAt s a) b ≡ some (letter q (n .value))) (name .sender) (name .count) out)
+
+  pub good-closed : {k : Cut} → Good s k → Closed s k
+  good-closed {k} good = record { keeps = λ x y i j e. keeps (on-of s x y i j e) }
+    where
+      at-target : {p q t i j : ℕ} {v : List ℕ} {e : Entry} {g : List Entry} {n : Message} → Arrives s q i n → Stands s p j e g → asSend (e .kind) ≡ some (letter t v) → Named p (sends g) n
+          → i < k (deliveriesTo q) → j < k (entriesOf p)
+      at-target {p} {q} {t} {i} {j} {v} {e} {g} {n} r st is name h =
+          subst (λ z. j < k (entriesOf z)) (name .sender)
+          (good .mailed {v = v} r (subst (λ z. Stands s z j e g) (sym (name .sender)) st) (subst (λ z. asSend (e .kind) ≡ some (letter z v)) (sent-to r st is name) is) (sym (name .count)) h)
+
+      keeps : {x y : Line} {i j : ℕ} → On s x i y j → i < k x → j < k y
+      keeps (later l) h = omega arith
+      keeps (of-spawn-entry st is) h = or-else λ u. omega (arith, h, good .born st is u .0)
+      keeps (of-spawn-delivery st is) h = or-else λ u. omega (arith, h, good .born st is u .1)
+      keeps (of-queue {g} st is r x) h = let z = saw sound st is r (any-left (taken g) x) in omega (arith, z, good .saw-all st is h)
+      keeps (of-since {a} {d} {m} r st is x y) h = or-else λ u. elim (any-append (a ++ (m ∷ d)) (sees sound st is r (omega (arith, h, good .saw-none st is u)))) [ inl z ↦ x z | inr z ↦ y z ]
+      keeps (of-send {l = letter t v} r st is name) h = at-target r st is name h
+
+  -- ---- each lowering that a pass over the numbers makes takes only what is in the set
+  module _ {set : Line → ℕ → Type 0} (upward : Upward s set) {k : Cut} (within : Within s set k) where
+    pub pull-send : {q i j : ℕ} {v : List ℕ} {e : Entry} {g : List Entry} {n : Message} → Arrives s q j n → Stands s (n .sender) i e g → asSend (e .kind) ≡ some (letter q v) → sends g ≡ n .count
+        → k (entriesOf (n .sender)) ≤ i → set (deliveriesTo q) j
+    pull-send {q} {i} {j} {n = n} r st is c h = upward .up (deliveriesTo q) (entriesOf (n .sender)) j i (on-send r st is c) (within .goes (entriesOf (n .sender)) i (stands-low st) h)
+
+    pub pull-child : {p q i : ℕ} {e : Entry} {g : List Entry} → Stands s p i e g → asSpawn (e .kind) ≡ some q → k (entriesOf p) ≤ i
+        → (0 < level s (entriesOf q) → set (entriesOf q) 0) × (0 < level s (deliveriesTo q) → set (deliveriesTo q) 0)
+    pull-child {p} {q} {i} st is h =
+        let gone = within .goes (entriesOf p) i (stands-low st) h in
+        (λ z. upward .up (entriesOf q) (entriesOf p) 0 i (on-spawn-entry z st is) gone, λ z. upward .up (deliveriesTo q) (entriesOf p) 0 i (on-spawn-delivery z st is) gone)
+
+    module _ {p i : ℕ} {e : Entry} {g : List Entry} {a d : List Message} {m : Message} (st : Stands s p i e g) (is : asRec (e .kind) ≡ some (taking a m d)) where
+      pub pull-since : k (entriesOf p) ≤ i → seen a m d g < level s (deliveriesTo p) → set (deliveriesTo p) (seen a m d g)
+      pull-since h z =
+          let (n, r) = arrival s p (seen a m d g) z in
+          upward .up (deliveriesTo p) (entriesOf p) (seen a m d g) i
+          (on-since r st is (λ x. let u = saw sound st is r (any-left (taken g) x) in omega arith) (λ x. let u = saw sound st is r (any-right (a ++ (m ∷ d)) x) in omega arith))
+          (within .goes (entriesOf p) i (stands-low st) h)
+
+      pub pull-rec : k (deliveriesTo p) < seen a m d g → set (entriesOf p) i
+      pull-rec h =
+          let low = seen-low sound st is in
+          let (n, r) = arrival s p (k (deliveriesTo p)) (omega arith) in
+          let gone = within .goes (deliveriesTo p) (k (deliveriesTo p)) (omega arith) (omega arith) in
+          elim (any-append (a ++ (m ∷ d)) (sees sound st is r h)) [
+            | inl x ↦ upward .up (entriesOf p) (deliveriesTo p) i (k (deliveriesTo p)) (on-queue st is r x) gone
+            | inr x ↦ by-older r gone (taken-by g x)
+          ]
+        where
+          by-older : {n : Message} {j : ℕ} → Arrives s p j n → set (deliveriesTo p) j → TakenBy (Like n) g → set (entriesOf p) i
+          by-older {n} {j} r gone t =
+              let below : Stands s p (length (t .before)) (t .entry) (t .before) = record { at = suffix-trans (t .stands) (suffix-tail (st .at)); index = refl } in
+              let older-goes = upward .up (entriesOf p) (deliveriesTo p) (length (t .before)) j (on-queue below (t .is) r (any-middle (t .a) (t .message) (t .d) (t .good))) gone in
+              upto upward (entriesOf p) older-goes (let z = suffix-length (t .stands) in omega (arith, st .index)) (stands-low st)
+
+  -- ---- and a closed cut is good
+  closed-cut-up : {k : Cut} → Closed s k → Upward s (λ x i. k x ≤ i)
+  closed-cut-up {k} closed = record { up = λ x y i j e h. elim (decLt i (k x)) [ yes z ↦ absurd (let u = closed .keeps x y i j e z in omega arith) | no z ↦ omega arith ] }
+
+  own-within : (k : Cut) → Within s (λ x i. k x ≤ i) k
+  own-within k = record { goes = λ x i h g. g }
+
+  pub closed-good : {k : Cut} → ((x : Line) → k x ≤ level s x) → Closed s k → Good s k
+  closed-good {k} low closed = record { saw-all = saw-all; saw-none = saw-none; mailed = mailed; born = λ st is h. (born-0 st is h, born-1 st is h) }
+    where
+      upward : Upward s (λ x i. k x ≤ i)
+      upward = closed-cut-up closed
+
+      saw-all : {p i : ℕ} {e : Entry} {g : List Entry} {a d : List Message} {m : Message} → Stands s p i e g → asRec (e .kind) ≡ some (taking a m d) → i < k (entriesOf p) → seen a m d g ≤ k (deliveriesTo p)
+      saw-all {p} {g = g} {a} {d} {m} st is h = elim (decLt (k (deliveriesTo p)) (seen a m d g)) [ yes z ↦ absurd (let u = pull-rec upward (own-within k) st is z in omega arith) | no z ↦ omega arith ]
+
+      saw-none : {p i : ℕ} {e : Entry} {g : List Entry} {a d : List Message} {m : Message} → Stands s p i e g → asRec (e .kind) ≡ some (taking a m d) → k (entriesOf p) ≤ i → k (deliveriesTo p) ≤ seen a m d g
+      saw-none {p} {g = g} {a} {d} {m} st is h = elim (decLt (seen a m d g) (k (deliveriesTo p))) [
+        | yes z ↦ absurd (let u = pull-since upward (own-within k) st is h (omega (arith, z, low (deliveriesTo p))) in omega arith)
+        | no z ↦ omega arith
+      ]
+
+      mailed : {q i j : ℕ} {v : List ℕ} {e : Entry} {g : List Entry} {n : Message} → Arrives s q j n → Stands s (n .sender) i e g → asSend (e .kind) ≡ some (letter q v) → sends g ≡ n .count
+          → j < k (deliveriesTo q) → i < k (entriesOf (n .sender))
+      mailed r st is c h = or-else λ z. let u = pull-send upward (own-within k) r st is c z in omega arith
+
+      born-0 : {p q i : ℕ} {e : Entry} {g : List Entry} → Stands s p i e g → asSpawn (e .kind) ≡ some q → k (entriesOf p) ≤ i → k (entriesOf q) ≡ 0
+      born-0 {q = q} st is h = elim (decLt 0 (k (entriesOf q))) [ yes z ↦ absurd (let u = pull-child upward (own-within k) st is h .0 (omega (arith, z, low (entriesOf q))) in omega arith) | no z ↦ omega arith ]
+
+      born-1 : {p q i : ℕ} {e : Entry} {g : List Entry} → Stands s p i e g → asSpawn (e .kind) ≡ some q → k (entriesOf p) ≤ i → k (deliveriesTo q) ≡ 0
+      born-1 {q = q} st is h = elim (decLt 0 (k (deliveriesTo q))) [ yes z ↦ absurd (let u = pull-child upward (own-within k) st is h .1 (omega (arith, z, low (deliveriesTo q))) in omega arith) | no z ↦ omega arith ]
