@@ -94,7 +94,7 @@ come-stays {x} {h} queue (grown kind c i u _ _) a = ap (λ h. come h queue) i �
 come-stays {x} {h′} queue (shrunk kind c i u) a = sym (ap (λ h. come h queue) i ∙ come-none (entry kind c) h′ queue (no-rec kind x (rw u at a)))
 
 -- a rec takes from the queue, and no arrival goes
-come-taken : (a : List Message) (m : Message) (b : List Message) (c : List ℕ) (h : List Entry) → come (entry (Kind.rec a m b) c ∷ h) (a ++ b) ≡ come h (a ++ (m ∷ b))
+pub come-taken : (a : List Message) (m : Message) (b : List Message) (c : List ℕ) (h : List Entry) → come (entry (Kind.rec a m b) c ∷ h) (a ++ b) ≡ come h (a ++ (m ∷ b))
 unfolding asRec
 come-taken a m b c h = come-rec (entry (Kind.rec a m b) c) h (a ++ b) refl ∙ ap (λ z. come h (a ++ (m ∷ b)) ++ z) (drop-length (a ++ b)) ∙ append-nil _
 

@@ -9,6 +9,7 @@ pub mod EventDepends
 pub mod Never
 pub mod RollbackDemands
 pub mod CutNumbers
+pub mod SearchNumbers
 pub mod Views
 pub mod Messages
 pub mod Histories
