@@ -12,14 +12,14 @@ use lib.Dec.{eqb, ltb}
 use lib.ListN.{length, length-append, drop, getElem?}
 use Rattle.lists.proofs.Tests.{true-not-false, true-or-false, none-not-some, some-injective, eqb-true, ltb-true, and-left, and-right, or-true, not-true}
 use Rattle.rules.specs.State.{Message, Letter, letter, Taking, taking, asSend, asRec, asSpawn, Entry, State, historyAt, entryAt}
-use Rattle.rules.specs.Flight.{sends, sent, taken, left}
-use Rattle.rules.specs.Sound.{SentTo, Flows, Sound}
+use Rattle.rules.specs.Flight.{sends, sent, taken, leftOr, left}
+use Rattle.rules.specs.Sound.{SentTo, Prefix, Flows, Sound}
 use Rattle.rules.specs.Depends.{queueBefore, isAmong, arrivals, Line, entriesOf, deliveriesTo, level, isSpawnOf, inQueueBefore, olderThan, lacks, madeBefore, isSendOf, listed, dependsAtOnce}
 use Rattle.rules.specs.Rollback.{Cut}
 use Rattle.rules.proofs.Messages.{Any, here, there, Is, any-append, any-left, any-right, any-middle, any-none, any-map, Named, Once, once-of}
 use Rattle.rules.proofs.Histories.{Suffix, whole, older, suffix-length, suffix-tail, suffix-sent}
 use Rattle.rules.proofs.SoundFacts.{mail}
-use Rattle.rules.proofs.Arrival.{shownOr, shown, come, come-more, come-none, come-rec, flows-none, flows-rec, flows-long, taken-none, taken-rec, taken-nil, once-come, length-come, any-come, among, among-of, once-apart}
+use Rattle.rules.proofs.Arrival.{shownOr, shown, come, come-more, come-none, come-rec, nil-flows, flows-none, flows-rec, none-flows, rec-flows, flows-long, taken-none, taken-rec, taken-nil, once-come, length-come, any-come, among, among-of, once-apart}
 use Rattle.rules.proofs.Event.{suffix-trans, comeAt, arrivals-at}
 use Rattle.rules.proofs.EventDepends.{Stands, Arrives, Like, stands-entry, stands-older, stands-low, arrives-elem, arrives-low, entry-stands, elem-arrives, arrival, on-spawn-entry, on-spawn-delivery, on-queue, on-since, on-send, spawn-of, send-of}
 use Rattle.rules.proofs.Cut.{Upward, Within, Closed, upto, later-depends, depends-from, depends-on, depends-listed}
@@ -348,3 +348,53 @@ module _ {s : State} (sound : Sound s) where
 
       born-1 : {p q i : ℕ} {e : Entry} {g : List Entry} → Stands s p i e g → asSpawn (e .kind) ≡ some q → k (entriesOf p) ≤ i → k (deliveriesTo q) ≡ 0
       born-1 {q = q} st is h = elim (decLt 0 (k (deliveriesTo q))) [ yes z ↦ absurd (let u = pull-child upward (own-within k) st is h .1 (omega (arith, z, low (deliveriesTo q))) in omega arith) | no z ↦ omega arith ]
+
+-- ---- the number of an arrival: its place in the first queue that shows it, and the recs before
+prefix-front : (front x z others : List Message) → x ++ z ≡ front ++ others → length front ≤ length x → Prefix front x
+prefix-front [] x z others e h = record { others = x; whole = refl }
+prefix-front (u ∷ front) [] z others e h = absurd (omega arith)
+prefix-front (u ∷ front) (v ∷ x) z others e h =
+    let i : x ++ z ≡ front ++ others = cc in
+    let j : v ≡ u = cc in
+    let r = prefix-front front x z others i (omega arith) in
+    record { others = r .others; whole = let k = r .whole in cc }
+
+left-none : (e : Entry) (h : List Entry) → asRec (e .kind) ≡ none → left (e ∷ h) ≡ left h
+unfolding left leftOr
+left-none e h i = ap (λ o. leftOr o (left h)) i
+
+left-rec : (e : Entry) (h : List Entry) {a d : List Message} {m : Message} → asRec (e .kind) ≡ some (taking a m d) → left (e ∷ h) ≡ a ++ d
+unfolding left leftOr
+left-rec e h i = ap (λ o. leftOr o (left h)) i
+
+flows-front : (h : List Entry) (x z : List Message) → Flows h (x ++ z) → length (left h) ≤ length x → Flows h x
+flows-front [] x z f l = nil-flows x
+flows-front (e ∷ h) x z f l = go (asRec (e .kind)) refl (flows-front h x z)
+  where
+    go : (o : Option Taking) → asRec (e .kind) ≡ o → (Flows h (x ++ z) → length (left h) ≤ length x → Flows h x) → Flows (e ∷ h) x
+    go none i r = none-flows e h x i (r (flows-none e h (x ++ z) i f) (omega (arith, l, ap length (left-none e h i))))
+    go (some (taking a m d)) i r =
+        let (p, g) = flows-rec e h (x ++ z) i f in
+        rec-flows e h x i (prefix-front (a ++ d) x z (p .others) (p .whole) (omega (arith, l, ap length (left-rec e h i)))) g
+
+module _ {s : State} (sound : Sound s) {q : ℕ} {n : Message} (x y : List Message) where
+  -- a message in the queue, behind what the newest rec left
+  pub number-now : s .queues q ≡ x ++ (n ∷ y) → length (left (historyAt s q)) ≤ length x → Arrives s q (length x + length (taken (historyAt s q))) n
+  number-now e l = record {
+    before = come (historyAt s q) x;
+    after = y;
+    at = arrivals-at sound q ∙ ap (come (historyAt s q)) e ∙ come-more (historyAt s q) x (n ∷ y) l;
+    index = length-come (historyAt s q) x (flows-front (historyAt s q) x (n ∷ y) (subst (Flows (historyAt s q)) e (sound .prefixes q)) l);
+  }
+
+  -- a message in the queue before a rec, behind what the rec before it left
+  pub number-then : {i : ℕ} {e : Entry} {g : List Entry} {a d : List Message} {m : Message} → Stands s q i e g → asRec (e .kind) ≡ some (taking a m d) → a ++ (m ∷ d) ≡ x ++ (n ∷ y)
+      → length (left g) ≤ length x → Arrives s q (length x + length (taken g)) n
+  number-then {g = g} st is i l =
+      let (z, u) = seen-first (s .queues q) (st .at) is in
+      record {
+        before = come g x;
+        after = y ++ z;
+        at = arrivals-at sound q ∙ u ∙ ap (λ w. come g w ++ z) i ∙ ap (λ w. w ++ z) (come-more g x (n ∷ y) l) ∙ append-assoc (come g x) (n ∷ y) z;
+        index = length-come g x (flows-front g x (n ∷ y) (subst (Flows g) i (flows-at (s .queues q) (st .at) is (sound .prefixes q))) l);
+      }

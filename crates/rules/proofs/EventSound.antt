@@ -48,6 +48,10 @@ had-before {s} {x} {control} {g} (backward {p} {before} {older} i (undo-spawn {q
 had-before (sched _ _) b e = absurd b
 had-before (unsched _ _ _ _) b e = now e
 
+pub had-undone : {s : State} {d : Deed} {w : Move} {x : ℕ} {control : List ℕ} {g : List Entry} → Does s d w → Backward d → Had (apply w s) x control g → Had s x control g
+had-undone a b (now i) = had-before a b i
+had-undone {x} a b (past st) = past (suffix-trans st (suffix-back (turned x a) b))
+
 module _ {s : State} (sound : Sound s) {d : Deed} {w : Move} (a : Does s d w) (b : Backward d) where
   entry-before : (x i : ℕ) {e : Entry} → entryAt (historyAt (apply w s) x) i ≡ some e → (j : ℕ) × (entryAt (historyAt s x) j ≡ some e)
   entry-before x i stands =

@@ -16,7 +16,8 @@ use Rattle.causal.specs.Exec.{Step}
 use Rattle.rules.specs.Answers.{held}
 use Rattle.rules.specs.State.{Sizes, Entry, State, historyAt}
 use Rattle.rules.specs.Load.{loaded, loads, load}
-use Rattle.rules.specs.Commands.{Command, Deed, makes, undoes, delivers, undelivers, apply, runState}
+use Rattle.rules.specs.Commands.{Command, Deed, makes, undoes, delivers, undelivers, apply, entry, runState}
+use Rattle.rules.specs.Rules.{process}
 use Rattle.rules.specs.Sound.{Sound}
 use Rattle.rules.specs.Depends.{queuesShown, shownIn, arrivals, Line, entriesOf, deliveriesTo, level, happened, WithDependents}
 use Rattle.rules.specs.Rollback.{Removes, Rollback, is-done, is-held, no-check, no-process, event, stays, cutBefore, RolledBack, refused, rolled, undoTo}
@@ -29,8 +30,10 @@ use Rattle.rules.proofs.SoundLoad.{sizes-say, Loads, loads-of, load-his
 use Rattle.rules.proofs.Reached.{Reached, reached-load, reached-after}
 use Rattle.rules.proofs.Steps.{Taken, taken, goes-forward}
 use Rattle.rules.proofs.Demands.{demands}
+use Rattle.rules.proofs.Positions.{Had, now, past}
 use Rattle.rules.proofs.Event.{Forward, low}
-use Rattle.rules.proofs.Removal.{Back, back-under, sound-back, in-level, level-in, removes-run, removes-one, greedy, counted, sum, total}
+use Rattle.rules.proofs.EventSound.{had-undone, sound-undone}
+use Rattle.rules.proofs.Removal.{Back, halt, took, back-under, sound-back, in-level, level-in, removes-run, removes-one, greedy, counted, sum, total}
 use Rattle.rules.proofs.Cut.{dependents-up, upto, IsCut, cut-is, cut-below, cut-closed}
 use Rattle.rules.proofs.Rollback.{cut-removes, newest-low, Outcome, removed, stands, undo-outcome, rollback-is, rollback-one}
 use Rattle.rules.proofs.Never.{Ahead, start, went, ahead-reached, never}
@@ -50,6 +53,16 @@ newer-of : {g h : List Entry} → Suffix g h → (newer : List Entry) × (h ≡ 
 newer-of whole = ([], refl)
 newer-of (older {e} s) = let (n, i) = newer-of s in (e ∷ n, ap (λ z. e ∷ z) i)
 
+-- what a process has after undos it had before them
+had-back : {s t : State} {n x : ℕ} {control : List ℕ} {g : List Entry} → Sound s → Back s t n → Had t x control g → Had s x control g
+had-back sound halt h = h
+had-back sound (took a b r) h = had-undone a b (had-back (sound-undone sound a b) r h)
+
+had-newer : {s : State} {x : ℕ} {control : List ℕ} {g : List Entry} → Had s x control g
+    → (s .processes x ≡ some (process control g)) ⊎ ((newer : List Entry) × (e : Entry) × (historyAt s x ≡ newer ++ (e ∷ g)) × (e .before ≡ control))
+had-newer (now i) = inl i
+had-newer {control} (past {kind} st) = let (newer, i) = newer-of st in inr (newer, entry kind control, i, refl)
+
 module _ {s end : State} {set : Line → ℕ → Type 0} {n : ℕ} (sound : Sound s) (r : Removes s end set n) where
   below : (x : Line) → level end x ≤ level s x
   below = low (back-under sound (removes-run sound r))
@@ -68,6 +81,7 @@ removal-is-determined = record {
   count = λ s end set n sound r. count-gone sound r;
   histories = λ s end set n p sound r. newer-of (back-under sound (removes-run sound r) .suffixes p);
   deliveries = λ s end set n q sound r. back-under sound (removes-run sound r) .firsts q;
+  controls = λ s end set n p process sound r i. had-newer (had-back sound (removes-run sound r) (now i));
   sound = λ s end set n sound r. sound-back sound (removes-run sound r);
   greedy = λ s after end set n x sound r e d. greedy x sound r e d;
 }

@@ -3,13 +3,13 @@
 -- name in proofs/RollbackDemands. Assumes nothing: these are definitions.
 use Prim.Native.Nat.{ℕ, zero, suc, _≤_, _+_, _-_}
 use mathlib.Core.Path.{_≡_}
-use mathlib.Core.Logic.{_↔_}
+use mathlib.Core.Logic.{_⊎_, _↔_}
 use mathlib.Core.Bool.{true, false}
 use mathlib.Core.Option.{some}
-use mathlib.Core.List.{List, _++_}
+use mathlib.Core.List.{List, _∷_, _++_}
 use lib.ListN.{length}
 use Rattle.rules.specs.Answers.{held}
-use Rattle.rules.specs.State.{Message, Entry, State, historyAt}
+use Rattle.rules.specs.State.{Message, Entry, Process, State, historyAt}
 use Rattle.rules.specs.Commands.{runState}
 use Rattle.rules.specs.Sound.{Sound}
 use Rattle.rules.specs.Depends.{arrivals, Line, entriesOf, deliveriesTo, level, happened, WithDependents}
@@ -43,6 +43,9 @@ pub record RemovalIsDetermined : Type 1 where
   -- what stays of a history are its oldest entries, and of the arrivals the first;
   pub histories : (s end : State) (set : Line → ℕ → Type 0) (n p : ℕ) → Sound s → Removes s end set n → (newer : List Entry) × (historyAt s p ≡ newer ++ historyAt end p)
   pub deliveries : (s end : State) (set : Line → ℕ → Type 0) (n q : ℕ) → Sound s → Removes s end set n → (later : List Message) × (arrivals s q ≡ arrivals end q ++ later)
+  -- a process that stays has the control that it had with those entries: its present one, or the one before the oldest entry that goes;
+  pub controls : (s end : State) (set : Line → ℕ → Type 0) (n p : ℕ) (process : Process) → Sound s → Removes s end set n → end .processes p ≡ some process
+      → (s .processes p ≡ some process) ⊎ ((newer : List Entry) × (e : Entry) × (historyAt s p ≡ newer ++ (e ∷ process .history)) × (e .before ≡ process .control))
   -- the end state is sound;
   pub sound : (s end : State) (set : Line → ℕ → Type 0) (n : ℕ) → Sound s → Removes s end set n → Sound end
   -- and an accepted undo inside the set never spoils the rest
