@@ -10,6 +10,7 @@ pub mod Never
 pub mod RollbackDemands
 pub mod CutNumbers
 pub mod SearchNumbers
+pub mod RollbackExamples
 pub mod Views
 pub mod Messages
 pub mod Histories
