@@ -1,22 +1,22 @@
 -- The arrivals at a process in closed form: what each queue shows beyond what the rec before it left. In sound states these are 01's
 -- arrivals, "ordered by the first queue that shows them, then by place in it".
-use Prim.Native.Nat.{ℕ, suc, _<_, _≤_, _+_}
+use Prim.Native.Nat.{ℕ, _≤_, _+_}
 use mathlib.Core.Path.{_≡_, refl, sym, _∙_, ap, subst}
 use mathlib.Core.Logic.{_⊎_, inl, inr, _↔_}
-use mathlib.Core.Bool.{Bool, true, false, not}
+use mathlib.Core.Bool.{true, false, not}
 use mathlib.Core.Option.{Option, none, some}
 use mathlib.Core.List.{List, [], _∷_, _++_, append-assoc, append-nil}
 use native.Mathlib.Omega.{arith}
 use lib.ListN.{length, length-append, drop}
-use lib.Seq.{drop-length, drop-append-le, drop-append-seam}
+use lib.Seq.{drop-append-le, drop-append-seam}
 use Rattle.lists.specs.Lists.{any, keep}
 use Rattle.lists.proofs.Lists.{keep-true, keep-false, keep-nil}
 use Rattle.rules.specs.State.{Message, Taking, taking, asRec, Entry, State, historyAt}
 use Rattle.rules.specs.Flight.{alsoTaken, taken, leftOr, left}
 use Rattle.rules.specs.Sound.{Prefix, Flows}
 use Rattle.rules.specs.Depends.{queueBefore, queuesShown, isAmong, shownIn, arrivals}
-use Rattle.rules.proofs.Messages.{Any, here, there, Is, any-none, any-append, any-left, any-right, any-more, any-middle, any-less, any-map, Named, named-found, named-not, find-named, not-named, Once, once-out, once-in, once-give}
-use Rattle.rules.proofs.Histories.{Suffix, whole, older, suffix-length}
+use Rattle.rules.proofs.Messages.{Any, here, there, Is, any-none, any-append, any-left, any-right, any-more, any-middle, any-less, any-map, Named, named-found, named-not, find-named, Once, once-out, once-give}
+use Rattle.rules.proofs.Histories.{whole}
 use Rattle.rules.proofs.SoundFacts.{FlowsBy, flows-left, prefix-length}
 
 -- ---- the closed form
@@ -131,10 +131,6 @@ any-move {P} a m d e = (there-to, back-to)
       | inr y ↦ elim (one y) [ inl z ↦ any-left _ (any-middle a m d z) | inr z ↦ any-right (a ++ (m ∷ d)) z ]
     ]
 
--- the queue with the taken message put back, and the older ones taken
-abbrev After : List Message → Message → List Message → List Message → List Message → List Message
-After a m d y t = ((a ++ d) ++ y) ++ (m ∷ t)
-
 after-before : (a : List Message) (m : Message) (d y : List Message) → (a ++ (m ∷ d)) ++ y ≡ a ++ (m ∷ (d ++ y))
 after-before a m d y = append-assoc a (m ∷ d) y
 
@@ -229,10 +225,6 @@ is-like b x = any-map (λ n e. record { sender = ap (λ z. z .sender) e; count =
 pub once-apart : (x : List Message) (n : Message) {y : List Message} → Once (x ++ y) → Any (Named (n .sender) (n .count)) x → Any (Is n) y → ⊥
 once-apart (v ∷ x) n o (here l) r = o .0 (any-right x (any-map (λ m e. record { sender = ap (λ z. z .sender) e ∙ sym (l .sender); count = ap (λ z. z .count) e ∙ sym (l .count) }) r))
 once-apart (v ∷ x) n o (there z) r = once-apart x n (o .1) z r
-
-once-left : (x y : List Message) → Once (x ++ y) → Once x
-once-left [] y o = tt
-once-left (m ∷ x) y o = (λ z. o .0 (any-left y z), once-left x y (o .1))
 
 once-part : (x y z : List Message) → Once ((x ++ y) ++ z) → Once (x ++ z)
 once-part x [] z o = subst (λ w. Once (w ++ z)) (append-nil x) o

@@ -2,24 +2,23 @@
 use Prim.Native.Nat.{ℕ, zero, suc, _<_, _≤_, _+_, _-_}
 use mathlib.Core.Path.{_≡_, refl, sym, _∙_, ap, subst}
 use mathlib.Core.Logic.{_≢_, _⊎_, inl, inr}
-use mathlib.Core.Bool.{Bool, true, false, cond, not, _&&_, _||_}
-use mathlib.Core.Option.{Option, none, some}
+use mathlib.Core.Bool.{Bool, true, false, not, _&&_}
 use mathlib.Core.List.{List, [], _∷_, _++_, append-assoc, append-nil, map, map-append}
 use native.Mathlib.Decide.{ℕ-discrete, decLt}
 use native.Mathlib.Omega.{arith}
-use lib.Dec.{eqb, ltb}
-use lib.ListN.{length, length-append}
+use lib.Dec.{ltb}
+use lib.ListN.{length}
 use Rattle.lists.specs.Lists.{any, keep, upTo, joined}
-use Rattle.lists.proofs.Tests.{true-not-false, true-or-false, eqb-same, eqb-true, eqb-apart, ltb-true, ltb-of, ltb-over, ltb-false, and-left, and-right, and-of, or-left, not-true, cond-true, cond-false}
+use Rattle.lists.proofs.Tests.{true-not-false, true-or-false, eqb-same, eqb-apart, ltb-true, ltb-of, ltb-over, ltb-false, and-left, and-right, and-of, or-left, not-true, cond-true, cond-false}
 use Rattle.lists.proofs.Lists.{keep-true, keep-false, keep-nil}
 use Rattle.lists.proofs.Members.{In, in-left, in-right, in-joined, in-map, in-upTo, none-kept, first-kept, in-kept, kept-passes, one-passes, passes}
-use Rattle.rules.specs.State.{Entry, State, historyOf, historyAt, inPool}
+use Rattle.rules.specs.State.{State, historyOf, historyAt}
 use Rattle.rules.specs.Sound.{Sound}
 use Rattle.rules.specs.Depends.{queuesShown, shownIn, arrivals, Line, entriesOf, deliveriesTo, level, happened, listed, dependsAtOnce, Depends, at-once, chain, WithDependents}
 use Rattle.rules.specs.Rollback.{Cut, sameLine, cutTo, Event, event, eventsOn, eventsAt, events, eventDepends, stays, takenOff, torn, settled, cutBefore}
 use Rattle.rules.proofs.Frame.{no-process}
 use Rattle.rules.proofs.Event.{line?}
-use Rattle.rules.proofs.Removal.{in-level, level-in, over-level, level-over, sum, total, sum-same}
+use Rattle.rules.proofs.Removal.{in-level, level-in, sum, total, sum-same}
 
 -- ---- a set that holds what depends on it
 pub record Upward (s : State) (set : Line → ℕ → Type 0) : Type 0 where
@@ -329,10 +328,10 @@ enough-rounds s =
 
 -- ---- the cut that is computed is the set's
 module _ {s : State} (sound : Sound s) (x : Line) (i : ℕ) (h : i < level s x) where
-  start-low : (y : Line) → cutTo x i (level s) y ≤ level s y
+  pub start-low : (y : Line) → cutTo x i (level s) y ≤ level s y
   start-low y = cut-low x {i = i} (level s) (omega arith) y
 
-  start-within : Within s (WithDependents s x i) (cutTo x i (level s))
+  pub start-within : Within s (WithDependents s x i) (cutTo x i (level s))
   unfolding WithDependents
   start-within = lowered-within (dependents-up s x i) x i (record { goes = λ y j g z. absurd (omega arith) }) (λ _. inl (refl, refl))
 

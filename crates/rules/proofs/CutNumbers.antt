@@ -1,16 +1,16 @@
 -- 01's list of what depends on what, in numbers for each process: a rec and the arrivals that it has seen, a send and its arrival, a spawn
 -- and its child. A cut keeps these exactly where it keeps what its events depend on at once.
-use Prim.Native.Nat.{ℕ, zero, suc, _<_, _≤_, _+_}
+use Prim.Native.Nat.{ℕ, _<_, _≤_, _+_}
 use mathlib.Core.Path.{_≡_, refl, sym, _∙_, ap, subst, subst₂}
-use mathlib.Core.Logic.{_≢_, _⊎_, inl, inr}
-use mathlib.Core.Bool.{Bool, true, false, not, _&&_, _||_}
+use mathlib.Core.Logic.{_⊎_, inl, inr}
+use mathlib.Core.Bool.{true, not, _&&_, _||_}
 use mathlib.Core.Option.{Option, none, some}
 use mathlib.Core.List.{List, [], _∷_, _++_, append-assoc, append-nil}
-use native.Mathlib.Decide.{ℕ-discrete, decLt}
+use native.Mathlib.Decide.{decLt}
 use native.Mathlib.Omega.{arith}
 use lib.Dec.{eqb, ltb}
 use lib.ListN.{length, length-append, drop, getElem?}
-use Rattle.lists.proofs.Tests.{true-not-false, true-or-false, none-not-some, some-injective, eqb-true, ltb-true, and-left, and-right, or-true, not-true}
+use Rattle.lists.proofs.Tests.{true-not-false, eqb-true, ltb-true, and-left, and-right, or-true, not-true}
 use Rattle.rules.specs.State.{Message, Letter, letter, Taking, taking, asSend, asRec, asSpawn, Entry, State, historyAt, entryAt}
 use Rattle.rules.specs.Flight.{sends, sent, taken, leftOr, left}
 use Rattle.rules.specs.Sound.{SentTo, Prefix, Flows, Sound}
@@ -19,10 +19,10 @@ use Rattle.rules.specs.Rollback.{Cut}
 use Rattle.rules.proofs.Messages.{Any, here, there, Is, any-append, any-left, any-right, any-middle, any-none, any-map, Named, Once, once-of}
 use Rattle.rules.proofs.Histories.{Suffix, whole, older, suffix-length, suffix-tail, suffix-sent}
 use Rattle.rules.proofs.SoundFacts.{mail}
-use Rattle.rules.proofs.Arrival.{shownOr, shown, come, come-more, come-none, come-rec, nil-flows, flows-none, flows-rec, none-flows, rec-flows, flows-long, taken-none, taken-rec, taken-nil, once-come, length-come, any-come, among, among-of, once-apart}
-use Rattle.rules.proofs.Event.{suffix-trans, comeAt, arrivals-at}
-use Rattle.rules.proofs.EventDepends.{Stands, Arrives, Like, stands-entry, stands-older, stands-low, arrives-elem, arrives-low, entry-stands, elem-arrives, arrival, on-spawn-entry, on-spawn-delivery, on-queue, on-since, on-send, spawn-of, send-of}
-use Rattle.rules.proofs.Cut.{Upward, Within, Closed, upto, later-depends, depends-from, depends-on, depends-listed}
+use Rattle.rules.proofs.Arrival.{shownOr, shown, come, come-more, nil-flows, flows-none, flows-rec, none-flows, rec-flows, taken-none, taken-rec, taken-nil, once-come, length-come, any-come, among, among-of, once-apart}
+use Rattle.rules.proofs.Event.{suffix-trans, arrivals-at}
+use Rattle.rules.proofs.EventDepends.{Stands, Arrives, Like, stands-older, stands-low, entry-stands, elem-arrives, arrival, on-spawn-entry, on-spawn-delivery, on-queue, on-since, on-send, spawn-of, send-of}
+use Rattle.rules.proofs.Cut.{Upward, Within, Closed, upto, depends-listed}
 
 -- ---- the arrivals that a rec has seen
 abbrev pub seen : List Message → Message → List Message → List Entry → ℕ

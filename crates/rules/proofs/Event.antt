@@ -1,28 +1,27 @@
 -- Events: one accepted command takes one event off, or puts one on, its line, and no other line changes.
-use Prim.Native.Nat.{ℕ, suc, _<_, _≤_, _+_}
-use mathlib.Core.Path.{_≡_, refl, sym, _∙_, ap, subst}
-use mathlib.Core.Logic.{_≢_, _⊎_, inl, inr}
-use mathlib.Core.Bool.{true, false}
-use mathlib.Core.Option.{Option, none, some}
+use Prim.Native.Nat.{ℕ, suc, _≤_}
+use mathlib.Core.Path.{_≡_, refl, sym, _∙_, ap}
+use mathlib.Core.Logic.{_≢_, inl, inr}
+use mathlib.Core.Option.{none, some}
 use mathlib.Core.List.{List, [], _∷_, _++_, append-assoc, append-nil}
 use native.Mathlib.Decide.{ℕ-discrete}
 use native.Mathlib.Omega.{arith}
-use lib.ListN.{length, length-append, drop}
+use lib.ListN.{length, length-append}
 use lib.Seq.{drop-length}
 use Rattle.lists.specs.Tables.{put}
 use Rattle.lists.proofs.Tables.{put-same, put-other}
 use Rattle.lists.proofs.Tests.{true-not-false, none-not-some, some-injective}
-use Rattle.rules.specs.State.{Message, Taking, taking, Kind, asRec, Entry, Process, State, historyOf, historyAt, inPool}
-use Rattle.rules.specs.Flight.{sends, taken, left}
-use Rattle.rules.specs.Commands.{Command, back, undeliver, Deed, makes, undoes, delivers, undelivers, Beside, Move, turn, post, setProcess, setQueue, setBeside, apply, entry}
-use Rattle.rules.specs.Rules.{process, message, InFlight, Makes, alone, by-send, by-receive, by-spawn, Undoes, undo-alone, undo-send, undo-receive, undo-spawn, Does, forward, backward, sched, unsched, commandOf}
+use Rattle.rules.specs.State.{Message, Kind, asRec, Entry, State, historyOf, historyAt, inPool}
+use Rattle.rules.specs.Flight.{taken}
+use Rattle.rules.specs.Commands.{Deed, makes, undoes, delivers, undelivers, Move, setProcess, setQueue, setBeside, apply, entry}
+use Rattle.rules.specs.Rules.{process, message, InFlight, alone, by-send, by-receive, by-spawn, undo-alone, undo-send, undo-receive, undo-spawn, Does, forward, backward, sched, unsched}
 use Rattle.rules.specs.Independent.{Apart, mailbox, ifRec, receiver}
-use Rattle.rules.specs.Sound.{Flows, Sound}
+use Rattle.rules.specs.Sound.{Sound}
 use Rattle.rules.specs.Depends.{arrivals, Line, entriesOf, deliveriesTo, level}
 use Rattle.rules.proofs.Views.{made-alone, alone-rec}
 use Rattle.rules.proofs.Messages.{pick-is, once-of}
 use Rattle.rules.proofs.Histories.{Suffix, whole, older, suffix-length, suffix-top}
-use Rattle.rules.proofs.Frame.{Turned, same, grown, shrunk, turned, keep-queue, in-pool, history-of}
+use Rattle.rules.proofs.Frame.{Turned, same, grown, shrunk, turned, keep-queue, in-pool}
 use Rattle.rules.proofs.Deeds.{new-is-other}
 use Rattle.rules.proofs.Questions.{at?, no-rec}
 use Rattle.rules.proofs.Undo.{Backward}

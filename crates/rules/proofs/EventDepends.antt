@@ -1,23 +1,22 @@
 -- "Depends at once" clause by clause: what each clause of 01's list needs, and that it has not changed in an earlier state.
-use Prim.Native.Nat.{ℕ, zero, suc, _<_, _≤_}
+use Prim.Native.Nat.{ℕ, zero, suc, _<_}
 use mathlib.Core.Path.{_≡_, refl, sym, _∙_, ap, subst, subst₂}
-use mathlib.Core.Logic.{_≢_, _⊎_, inl, inr}
-use mathlib.Core.Bool.{Bool, true, false, not, _&&_, _||_}
+use mathlib.Core.Bool.{true, false, not, _&&_, _||_}
 use mathlib.Core.Option.{Option, none, some}
 use mathlib.Core.List.{List, [], _∷_, _++_}
 use native.Mathlib.Decide.{ℕ-discrete}
 use native.Mathlib.Omega.{arith}
 use lib.Dec.{eqb, ltb}
 use lib.ListN.{length, length-append, getElem?}
-use Rattle.lists.proofs.Tests.{true-not-false, true-or-false, none-not-some, some-injective, eqb-true, eqb-same, eqb-of, eqb-apart, ltb-true, and-left, and-right, and-of, or-true, or-left, or-right, not-true, cond-true, cond-false}
-use Rattle.rules.specs.State.{Message, Letter, letter, Taking, taking, Kind, asSend, asRec, asSpawn, Entry, State, historyAt, entryAt, isNamed}
+use Rattle.lists.proofs.Tests.{true-not-false, none-not-some, some-injective, eqb-true, eqb-same, eqb-of, eqb-apart, and-of, or-left, or-right, cond-false}
+use Rattle.rules.specs.State.{Message, Letter, taking, asSend, asRec, asSpawn, Entry, State, historyAt, entryAt, isNamed}
 use Rattle.rules.specs.Flight.{sends, taken}
-use Rattle.rules.specs.Depends.{queueBefore, isAmong, arrivals, Line, entriesOf, deliveriesTo, level, happened, isSpawnOf, inQueueBefore, olderThan, lacks, madeBefore, isSendOf, listed, dependsAtOnce}
+use Rattle.rules.specs.Depends.{queueBefore, arrivals, Line, entriesOf, deliveriesTo, level, isSpawnOf, inQueueBefore, olderThan, lacks, madeBefore, isSendOf, listed, dependsAtOnce}
 use Rattle.rules.proofs.Messages.{Any, Named, is-named, named-is}
 use Rattle.rules.proofs.Histories.{Suffix, whole, older, suffix-length, suffix-entry, entry-suffix}
 use Rattle.rules.proofs.Event.{Under, low, suffix-trans}
-use Rattle.rules.proofs.Arrival.{among, among-of, not-among}
-use Rattle.rules.proofs.Cut.{depends-from, depends-on, depends-listed, depends-of, later-depends, Closed}
+use Rattle.rules.proofs.Arrival.{among-of, not-among}
+use Rattle.rules.proofs.Cut.{depends-from, depends-on, depends-listed, depends-of, Closed}
 
 -- entry i of p, with the older ones
 pub record Stands (s : State) (p i : ℕ) (e : Entry) (g : List Entry) : Type 0 where

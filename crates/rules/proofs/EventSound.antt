@@ -1,10 +1,9 @@
 -- An undo takes a sound state to a sound state, whatever one process step does: nothing of the machine is asked for.
-use Prim.Native.Nat.{ℕ, suc, _<_, _≤_}
-use mathlib.Core.Path.{_≡_, refl, sym, _∙_, ap, subst}
-use mathlib.Core.Logic.{_⊎_, inl, inr}
-use mathlib.Core.Bool.{true, false}
-use mathlib.Core.Option.{Option, none, some}
-use mathlib.Core.List.{List, [], _∷_, _++_}
+use Prim.Native.Nat.{ℕ, _≤_}
+use mathlib.Core.Path.{_≡_, sym, _∙_, ap, subst}
+use mathlib.Core.Bool.{true}
+use mathlib.Core.Option.{none, some}
+use mathlib.Core.List.{List, _∷_}
 use native.Mathlib.Decide.{ℕ-discrete}
 use lib.ListN.{length}
 use Rattle.lists.specs.Tables.{put}
@@ -13,18 +12,18 @@ use Rattle.lists.proofs.Tests.{none-not-some, some-injective}
 use Rattle.term.specs.Module.{checkModule}
 use Rattle.term.specs.Control.{goodControl, moduleArities}
 use Rattle.machine.specs.Work.{work}
-use Rattle.rules.specs.State.{Letter, letter, Kind, asSend, asCheck, Entry, Process, State, historyAt, entryAt}
+use Rattle.rules.specs.State.{Kind, Entry, State, historyAt, entryAt}
 use Rattle.rules.specs.Load.{goodSizes}
-use Rattle.rules.specs.Commands.{Deed, makes, undoes, delivers, undelivers, Move, setProcess, setQueue, setBeside, apply, entry}
-use Rattle.rules.specs.Rules.{process, Undoes, undo-alone, undo-send, undo-receive, undo-spawn, Does, forward, backward, sched, unsched}
-use Rattle.rules.specs.Sound.{SoundControl, AboutToSend, Sound}
-use Rattle.rules.proofs.Histories.{Suffix, suffix-top, suffix-entry, entry-suffix}
+use Rattle.rules.specs.Commands.{Deed, Move, setProcess, setQueue, setBeside, apply, entry}
+use Rattle.rules.specs.Rules.{process, undo-alone, undo-send, undo-receive, undo-spawn, Does, forward, backward, sched, unsched}
+use Rattle.rules.specs.Sound.{SoundControl, Sound}
+use Rattle.rules.proofs.Histories.{suffix-top, suffix-entry, entry-suffix}
 use Rattle.rules.proofs.Frame.{turned, same-module, same-sizes, history-of}
 use Rattle.rules.proofs.Undo.{Backward}
 use Rattle.rules.proofs.SoundMail.{targets-after, no-queue-after, once-after, nothing-else-after, prefixes-after}
 use Rattle.rules.proofs.SoundSpawns.{place-0-after, pool-ends-after, history-fits-after, born-after, born-once-after, place-0-unborn-after, children-after}
 use Rattle.rules.proofs.Positions.{Had, now, past}
-use Rattle.rules.proofs.Event.{Under, suffix-trans, suffix-back}
+use Rattle.rules.proofs.Event.{suffix-trans, suffix-back}
 
 -- ---- what a process has after an undo it had before
 returned : {s : State} {p x : ℕ} {kind : Kind} {before top control : List ℕ} {h g : List Entry} → s .processes p ≡ some (process top (entry kind before ∷ h))

@@ -9,6 +9,7 @@ pub mod EventDepends
 pub mod Never
 pub mod RollbackDemands
 pub mod CutNumbers
+pub mod CutLoop
 pub mod SearchNumbers
 pub mod RollbackExamples
 pub mod Views

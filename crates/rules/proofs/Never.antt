@@ -1,39 +1,35 @@
 -- After a load the set of a rollback can always be removed: a reached state has a run that only goes forward, and along it a step that
 -- depends on nothing that goes is independent of the undos.
-use Prim.Native.Nat.{ℕ, zero, suc, _<_, _≤_, _+_, min}
-use mathlib.Core.Path.{_≡_, refl, sym, _∙_, ap, subst, subst₂}
-use mathlib.Core.Logic.{_≢_, _⊎_, inl, inr}
-use mathlib.Core.Bool.{Bool, true, false}
+use Prim.Native.Nat.{ℕ, suc, _<_, _≤_, min}
+use mathlib.Core.Path.{_≡_, refl, sym, _∙_, ap, subst}
+use mathlib.Core.Logic.{inl, inr}
+use mathlib.Core.Bool.{true}
 use mathlib.Core.Option.{Option, none, some}
 use mathlib.Core.List.{List, [], _∷_, _++_}
-use native.Mathlib.Decide.{ℕ-discrete, decLt}
+use native.Mathlib.Decide.{decLt}
 use native.Mathlib.Omega.{arith}
-use lib.ListN.{length, length-append}
-use Rattle.lists.specs.Tables.{put}
 use Rattle.lists.proofs.Tables.{put-same}
-use Rattle.lists.proofs.Tests.{true-not-false, none-not-some, some-injective}
-use Rattle.rules.specs.State.{Message, Letter, letter, Taking, taking, Kind, asSend, asRec, asSpawn, Entry, State, historyOf, historyAt}
+use Rattle.lists.proofs.Tests.{none-not-some, some-injective}
+use Rattle.rules.specs.State.{Message, Letter, Taking, taking, Kind, asSend, asRec, asSpawn, State, historyOf, historyAt}
 use Rattle.rules.specs.Flight.{sends, taken, alsoTaken}
-use Rattle.rules.specs.Commands.{Command, Deed, makes, undoes, delivers, undelivers, Beside, Move, setProcess, setQueue, setBeside, apply, entry}
-use Rattle.rules.specs.Rules.{process, message, InFlight, Makes, alone, by-send, by-receive, by-spawn, Undoes, undo-alone, undo-send, undo-receive, undo-spawn, Does, forward, backward, sched, unsched, commandOf}
+use Rattle.rules.specs.Commands.{Deed, makes, undoes, delivers, undelivers, Move, setProcess, setQueue, setBeside, apply, entry}
+use Rattle.rules.specs.Rules.{message, alone, by-send, by-receive, by-spawn, undo-alone, undo-send, undo-receive, undo-spawn, Does, forward, backward}
 use Rattle.rules.specs.Independent.{Apart, actor, mailbox, actsAt, ifRec, receiver, spawnsInto, unspawns, Unsends, Crossed, IndependentDeeds}
 use Rattle.rules.specs.Sound.{Sound}
 use Rattle.rules.specs.Depends.{arrivals, Line, entriesOf, deliveriesTo, level, dependsAtOnce}
 use Rattle.rules.specs.Rollback.{Cut, isUndo}
 use Rattle.rules.proofs.Views.{made-alone, alone-rec, alone-send}
 use Rattle.rules.proofs.Messages.{Any, here, there, any-less, any-middle, Named, pick-is}
-use Rattle.rules.proofs.Histories.{Suffix, suffix-top}
-use Rattle.rules.proofs.Frame.{history-of}
+use Rattle.rules.proofs.Histories.{suffix-top}
 use Rattle.rules.proofs.Questions.{Came, flight-fresh}
 use Rattle.rules.proofs.Square.{square}
-use Rattle.rules.proofs.Undo.{Backward, Undo, undo-forward, undo-deliver, apart-none}
-use Rattle.rules.proofs.SoundStep.{sound-after}
+use Rattle.rules.proofs.Undo.{Backward, undo-forward, undo-deliver, apart-none}
 use Rattle.rules.proofs.Knows.{calm}
 use Rattle.rules.proofs.Reached.{Reached, reached-after}
-use Rattle.rules.proofs.Event.{lineOf, line?, Forward, Under, low, suffix-trans, Down, up, topped, popped, comeAt, arrivals-at, arrivals-kept, undelivered-last, delivered-last, arrivals-last, arrivals-new}
+use Rattle.rules.proofs.Event.{lineOf, line?, Forward, Under, low, suffix-trans, Down, up, topped, popped, arrivals-kept, undelivered-last, delivered-last, arrivals-last, arrivals-new}
 use Rattle.rules.proofs.EventSound.{sound-undone}
 use Rattle.rules.proofs.EventDepends.{Stands, Arrives, Like, on-spawn-entry, on-spawn-delivery, on-queue, on-since, on-send, closed-under}
-use Rattle.rules.proofs.Removal.{Back, halt, took, back-under, lower, backward-of, command-of-line, line-of-undo}
+use Rattle.rules.proofs.Removal.{Back, halt, took, back-under, lower, backward-of}
 use Rattle.rules.proofs.Cut.{Closed, later-depends}
 
 -- ---- a step and an undo that are not independent: what the step does depends on what the undo would take

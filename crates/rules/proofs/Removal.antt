@@ -1,27 +1,25 @@
 -- Runs of undos: they commute, and what they remove decides where they end and how many they are, whatever the order.
 use Prim.Native.Nat.{ℕ, zero, suc, _<_, _≤_, _+_}
 use mathlib.Core.Path.{_≡_, refl, sym, _∙_, ap, subst, subst₂}
-use mathlib.Core.Logic.{_≢_, _⊎_, inl, inr, _↔_}
-use mathlib.Core.Bool.{Bool, true, false}
-use mathlib.Core.Option.{Option, none, some}
-use mathlib.Core.List.{List, [], _∷_, _++_}
+use mathlib.Core.Logic.{_≢_, _⊎_, inl, inr}
+use mathlib.Core.Bool.{true, false}
+use mathlib.Core.Option.{some}
 use native.Mathlib.Decide.{ℕ-discrete, decLt}
 use native.Mathlib.Omega.{arith}
-use lib.ListN.{length}
 use Rattle.lists.proofs.Tests.{true-not-false, none-not-some, some-injective, ltb-true, ltb-of, ltb-false, ltb-over}
-use Rattle.rules.specs.State.{Kind, seq, send, rec, spawn, self, check, Entry, State, historyAt, inPool}
-use Rattle.rules.specs.Commands.{Command, step, spawnInto, deliver, back, undeliver, Deed, makes, undoes, delivers, undelivers, Move, apply, Plan, refuse, accept, afterPlan, run, runState}
+use Rattle.rules.specs.State.{seq, send, rec, spawn, self, check, State, inPool}
+use Rattle.rules.specs.Commands.{Command, Deed, makes, undoes, delivers, undelivers, Move, apply, Plan, refuse, accept, afterPlan, run, runState}
 use Rattle.rules.specs.Rules.{Does, forward, backward, sched, unsched, makingOf, commandOf}
-use Rattle.rules.specs.Independent.{unspawns, IndependentDeeds}
+use Rattle.rules.specs.Independent.{unspawns}
 use Rattle.rules.specs.Sound.{Sound}
 use Rattle.rules.specs.Depends.{Line, entriesOf, deliveriesTo, level, happened}
 use Rattle.rules.specs.Rollback.{isUndo, Undos, stop, undo, Removes, undoOf}
 use Rattle.rules.proofs.Frame.{in-pool, same-sizes}
 use Rattle.rules.proofs.Deeds.{target}
-use Rattle.rules.proofs.Square.{Calm, square}
+use Rattle.rules.proofs.Square.{square}
 use Rattle.rules.proofs.Undo.{Backward, undos-independent}
 use Rattle.rules.proofs.Knows.{apart-if, unspawns-apart}
-use Rattle.rules.proofs.RunSound.{By, run-sound}
+use Rattle.rules.proofs.RunSound.{run-sound}
 use Rattle.rules.proofs.RunComplete.{run-complete}
 use Rattle.rules.proofs.Event.{lineOf, line?, Under, under-refl, under-trans, low, Down, down}
 use Rattle.rules.proofs.EventSound.{sound-undone}

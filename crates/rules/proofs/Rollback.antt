@@ -1,21 +1,21 @@
 -- Rollback in every sound state: what is computed is what 01's words allow, and they allow one outcome only.
-use Prim.Native.Nat.{ℕ, suc, _<_, _≤_, _+_}
+use Prim.Native.Nat.{ℕ, _<_, _≤_}
 use mathlib.Core.Path.{_≡_, refl, sym, _∙_, ap, subst, fun-ext}
-use mathlib.Core.Logic.{_⊎_, inl, inr, _↔_}
-use mathlib.Core.Bool.{Bool, true, false}
+use mathlib.Core.Logic.{_⊎_, inl, inr}
+use mathlib.Core.Bool.{true, false}
 use mathlib.Core.Option.{Option, none, some}
 use mathlib.Core.List.{List, [], _∷_}
 use native.Mathlib.Decide.{decLt}
 use native.Mathlib.Omega.{arith}
 use lib.ListN.{length}
-use Rattle.lists.proofs.Tests.{true-not-false, true-or-false, none-not-some, some-injective, ltb-of, ltb-over, ltb-false}
-use Rattle.rules.specs.Answers.{done, noProcess, held, noCheckpoint}
+use Rattle.lists.proofs.Tests.{true-not-false, true-or-false, none-not-some, some-injective}
+use Rattle.rules.specs.Answers.{noProcess, held, noCheckpoint}
 use Rattle.rules.specs.State.{asCheck, Entry, State, historyAt, inPool}
 use Rattle.rules.specs.Sound.{Sound}
-use Rattle.rules.specs.Depends.{Line, entriesOf, deliveriesTo, level, happened, WithDependents}
-use Rattle.rules.specs.Rollback.{isCheck, newestCheck, Removes, Rollback, is-done, is-held, no-check, no-process, Cut, Event, event, stays, takenOff, cutBefore, undoAll, RolledBack, refused, rolled, numberOf, countOf, endOf, undoTo, rollback}
-use Rattle.rules.proofs.Event.{Under, low}
-use Rattle.rules.proofs.Removal.{Back, back-under, in-level, level-in, removes-one, removes-run, removes-of, stays-out, gone-in, counted, total}
+use Rattle.rules.specs.Depends.{Line, entriesOf, level, WithDependents}
+use Rattle.rules.specs.Rollback.{isCheck, newestCheck, Removes, Rollback, is-done, is-held, no-check, no-process, Cut, event, takenOff, cutBefore, undoAll, RolledBack, refused, rolled, numberOf, countOf, endOf, undoTo, rollback}
+use Rattle.rules.proofs.Event.{low}
+use Rattle.rules.proofs.Removal.{Back, back-under, removes-one, removes-run, removes-of, stays-out, gone-in, counted, total}
 use Rattle.rules.proofs.Cut.{IsCut, cut-is, cut-below, count-off}
 use Rattle.rules.proofs.Search.{all-reaches, all-fails}
 

@@ -1,22 +1,22 @@
 -- What is demanded of rollback holds.
-use Prim.Native.Nat.{ℕ, zero, suc, _<_, _≤_, _+_, _-_, min}
+use Prim.Native.Nat.{ℕ, zero, suc, _≤_, _+_}
 use mathlib.Core.Path.{_≡_, refl, sym, _∙_, ap, subst}
 use mathlib.Core.Logic.{_⊎_, inl, inr, _↔_}
-use mathlib.Core.Bool.{true, false}
-use mathlib.Core.Option.{Option, none, some}
+use mathlib.Core.Bool.{true}
+use mathlib.Core.Option.{some}
 use mathlib.Core.List.{List, [], _∷_, _++_}
 use native.Mathlib.Decide.{ℕ-discrete}
 use native.Mathlib.Omega.{arith}
 use lib.ListN.{length}
 use Rattle.lists.specs.Lists.{keep}
-use Rattle.lists.proofs.Tests.{true-not-false, some-injective, ltb-false, ltb-over}
+use Rattle.lists.proofs.Tests.{ltb-false, ltb-over}
 use Rattle.machine.proofs.WorkLaws.{work-laws}
 use Rattle.causal.specs.Paths.{Directed, stay, go}
 use Rattle.causal.specs.Exec.{Step}
 use Rattle.rules.specs.Answers.{held}
 use Rattle.rules.specs.State.{Sizes, Entry, State, historyAt}
-use Rattle.rules.specs.Load.{loaded, loads, load}
-use Rattle.rules.specs.Commands.{Command, Deed, makes, undoes, delivers, undelivers, apply, entry, runState}
+use Rattle.rules.specs.Load.{loaded}
+use Rattle.rules.specs.Commands.{Command, Deed, makes, undoes, delivers, undelivers, entry, runState}
 use Rattle.rules.specs.Rules.{process}
 use Rattle.rules.specs.Sound.{Sound}
 use Rattle.rules.specs.Depends.{queuesShown, shownIn, arrivals, Line, entriesOf, deliveriesTo, level, happened, WithDependents}
@@ -27,14 +27,14 @@ use Rattle.rules.specs.RollbackDemands.{DependentsAreACut, sumBelow, gon
 use Rattle.rules.proofs.Histories.{Suffix, whole, older}
 use Rattle.rules.proofs.Undo.{Backward}
 use Rattle.rules.proofs.SoundLoad.{sizes-say, Loads, loads-of, load-history}
-use Rattle.rules.proofs.Reached.{Reached, reached-load, reached-after}
-use Rattle.rules.proofs.Steps.{Taken, taken, goes-forward}
+use Rattle.rules.proofs.Reached.{Reached, reached-load}
+use Rattle.rules.proofs.Steps.{taken, goes-forward}
 use Rattle.rules.proofs.Demands.{demands}
 use Rattle.rules.proofs.Positions.{Had, now, past}
 use Rattle.rules.proofs.Event.{Forward, low}
 use Rattle.rules.proofs.EventSound.{had-undone, sound-undone}
-use Rattle.rules.proofs.Removal.{Back, halt, took, back-under, sound-back, in-level, level-in, removes-run, removes-one, greedy, counted, sum, total}
-use Rattle.rules.proofs.Cut.{dependents-up, upto, IsCut, cut-is, cut-below, cut-closed}
+use Rattle.rules.proofs.Removal.{Back, halt, took, back-under, sound-back, in-level, level-in, removes-run, removes-one, greedy, counted, total}
+use Rattle.rules.proofs.Cut.{dependents-up, upto, cut-is, cut-below, cut-closed}
 use Rattle.rules.proofs.Rollback.{cut-removes, newest-low, Outcome, removed, stands, undo-outcome, rollback-is, rollback-one}
 use Rattle.rules.proofs.Never.{Ahead, start, went, ahead-reached, never}
 
@@ -183,6 +183,7 @@ module _ {s : State} (r : Reachable s) where
 never-held-at-all : NeverHeld
 never-held-at-all = record {
   never = λ s end p t n r x. never-held r refl x;
+  answers = λ s p t r e. never-held r e (rollback-is (reachable-sound r) p t);
   removable = λ s x i r h. removable r x i h;
 }
 

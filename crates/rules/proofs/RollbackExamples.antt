@@ -1,10 +1,10 @@
 -- A sound state that no load reaches, whose rollback is held: a process has received a message before it sent it. So the answer 13 is one
 -- of sound states, and it needs the reaching from a load that it never comes.
-use Prim.Native.Nat.{ℕ, zero, suc, _<_, _≤_}
+use Prim.Native.Nat.{ℕ, _≤_}
 use mathlib.Core.Path.{_≡_, refl, sym, _∙_, ap, subst}
 use mathlib.Core.Logic.{_⊎_, inl, inr}
-use mathlib.Core.Bool.{true, false}
-use mathlib.Core.Option.{Option, none, some}
+use mathlib.Core.Bool.{true}
+use mathlib.Core.Option.{none, some}
 use mathlib.Core.List.{List, [], _∷_, _++_}
 use native.Mathlib.Decide.{ℕ-discrete}
 use native.Mathlib.Omega.{arith}
@@ -16,16 +16,16 @@ use Rattle.term.specs.Module.{checkModule}
 use Rattle.term.specs.Shape.{controlShape}
 use Rattle.term.specs.Control.{goodControl, keepsRules}
 use Rattle.rules.specs.Answers.{held}
-use Rattle.rules.specs.State.{Message, Letter, letter, Kind, send, rec, check, asSend, asRec, asSpawn, asCheck, Entry, Process, State, historyOf, historyAt, entryAt, inPool}
-use Rattle.rules.specs.Flight.{sent, taken}
+use Rattle.rules.specs.State.{letter, send, rec, check, asSend, asRec, asSpawn, asCheck, Entry, Process, historyOf, historyAt, entryAt, inPool}
+use Rattle.rules.specs.Flight.{taken}
 use Rattle.rules.specs.Load.{goodSizes}
 use Rattle.rules.specs.Commands.{entry}
-use Rattle.rules.specs.Sound.{SoundControl, AboutToSend, SpawnedBy, distinct, SentTo, Prefix, Flows, Sound}
+use Rattle.rules.specs.Sound.{SoundControl, AboutToSend, distinct, SentTo, Flows, Sound}
 use Rattle.rules.specs.Opened.{opened}
 use Rattle.rules.specs.RollbackCases.{someAtom, sendTo, message0, receivedFirst, held-received}
 use Rattle.rules.specs.Rollback.{Rollback, numberOf, countOf, endOf}
 use Rattle.rules.specs.Demands.{Reachable}
-use Rattle.rules.proofs.Histories.{Suffix, whole, older, entry-suffix, sent-suffix, suffix-cons, no-suffix}
+use Rattle.rules.proofs.Histories.{Suffix, whole, entry-suffix, sent-suffix, suffix-cons, no-suffix}
 use Rattle.rules.proofs.Messages.{any-none, of-once}
 use Rattle.rules.proofs.Arrival.{taken-nil, nil-flows}
 use Rattle.rules.proofs.RollbackDemands.{rollback-demands}

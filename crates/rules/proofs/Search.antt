@@ -1,27 +1,26 @@
 -- Undoing greedily down to a cut: where any order of accepted undos reaches it, greedy does, and where greedy does not, none does.
 use Prim.Native.Nat.{ℕ, zero, suc, _<_, _≤_, _+_}
-use mathlib.Core.Path.{_≡_, refl, sym, _∙_, ap, subst, subst₂}
-use mathlib.Core.Logic.{_≢_, _⊎_, inl, inr}
-use mathlib.Core.Bool.{Bool, true, false}
+use mathlib.Core.Path.{_≡_, refl, sym, _∙_, ap, subst}
+use mathlib.Core.Logic.{_⊎_, inl, inr}
+use mathlib.Core.Bool.{true, false}
 use mathlib.Core.Option.{Option, none, some}
-use mathlib.Core.List.{List, [], _∷_, _++_, map}
-use native.Mathlib.Decide.{ℕ-discrete, decLt}
+use mathlib.Core.List.{List, [], _∷_, map}
+use native.Mathlib.Decide.{decLt}
 use native.Mathlib.Omega.{arith}
 use lib.Dec.{ltb}
-use lib.ListN.{length}
 use Rattle.lists.specs.Lists.{upTo}
-use Rattle.lists.proofs.Tests.{true-not-false, true-or-false, none-not-some, some-injective, ltb-true, ltb-of}
+use Rattle.lists.proofs.Tests.{true-or-false, none-not-some, some-injective, ltb-true, ltb-of}
 use Rattle.lists.proofs.Members.{In, first, later, in-left, in-right, in-map, in-upTo}
 use Rattle.rules.specs.State.{State}
 use Rattle.rules.specs.Commands.{apply, runState}
 use Rattle.rules.specs.Sound.{Sound}
 use Rattle.rules.specs.Depends.{Line, entriesOf, deliveriesTo, level}
-use Rattle.rules.specs.Rollback.{Cut, takenOff, undoOf, undoAbove, undoAlong, linesIn, undoAll, Removes}
+use Rattle.rules.specs.Rollback.{Cut, undoOf, undoAbove, undoAlong, linesIn, undoAll}
 use Rattle.rules.proofs.Frame.{same-sizes}
 use Rattle.rules.proofs.Event.{lineOf, line?, low}
 use Rattle.rules.proofs.EventSound.{sound-undone}
-use Rattle.rules.proofs.Removal.{Undone, undone-of, of-undone, Back, halt, took, lower, lost, front, back-under, sound-back, counted, one-down, sum, total, removes-of, stays-out, gone-in, removes-run}
-use Rattle.rules.proofs.Cut.{IsCut, placeOf, place-below, total-less, total-low, count-off}
+use Rattle.rules.proofs.Removal.{Undone, undone-of, of-undone, Back, halt, took, lower, lost, front, one-down, total}
+use Rattle.rules.proofs.Cut.{placeOf, place-below, total-less, total-low}
 
 -- ---- one undo above the cut
 above-true : (s : State) (k : Cut) (x : Line) → ltb (k x) (level s x) ≡ true → undoAbove s k x ≡ runState (undoOf x) s

@@ -1,41 +1,39 @@
 -- Undoing on cuts alone: when the undo of a line's newest event is accepted, in numbers of the state at the start, so that nothing need be
 -- written before it is known whether a set can be removed.
-use Prim.Native.Nat.{ℕ, zero, suc, _<_, _≤_, _+_}
+use Prim.Native.Nat.{ℕ, suc, _<_, _≤_, _+_}
 use mathlib.Core.Path.{_≡_, refl, sym, _∙_, ap, subst, subst₂, fun-ext}
-use mathlib.Core.Logic.{_≢_, _⊎_, inl, inr, _↔_}
+use mathlib.Core.Logic.{_≢_, inl, inr, _↔_}
 use mathlib.Core.Bool.{true, false}
 use mathlib.Core.Option.{Option, none, some}
 use mathlib.Core.List.{List, [], _∷_, _++_, append-assoc, append-nil}
-use native.Mathlib.Decide.{ℕ-discrete, decLt}
+use native.Mathlib.Decide.{decLt}
 use native.Mathlib.Omega.{arith}
-use lib.ListN.{length, length-append, drop}
-use lib.Seq.{drop-append-seam}
+use lib.ListN.{length, length-append}
 use Rattle.lists.specs.Lists.{butLast}
 use Rattle.lists.proofs.Lists.{last-of}
-use Rattle.lists.proofs.Tests.{true-not-false, true-or-false, none-not-some, some-injective}
-use Rattle.rules.specs.State.{Message, Letter, letter, Taking, taking, Kind, seq, send, rec, spawn, self, check, asSend, asRec, asSpawn, Entry, Process, State, historyOf, historyAt, inPool}
-use Rattle.rules.specs.Flight.{sends, sent, taken, leftOr, left}
+use Rattle.lists.proofs.Tests.{true-or-false, none-not-some, some-injective}
+use Rattle.rules.specs.State.{Message, letter, Taking, taking, Kind, seq, send, rec, spawn, self, check, asSend, asRec, asSpawn, Entry, Process, State, historyOf, historyAt, inPool}
+use Rattle.rules.specs.Flight.{sends, taken, leftOr, left}
 use Rattle.rules.specs.Load.{newProcess}
-use Rattle.rules.specs.Commands.{Deed, undoes, undelivers, Beside, nothing, ownQueue, other, Move, post, apply, entry, runState}
-use Rattle.rules.specs.Rules.{process, InFlight, Alone, seq-alone, self-alone, check-alone, Undoes, undo-alone, undo-send, undo-receive, undo-spawn, Does, forward, backward, sched, unsched}
-use Rattle.rules.specs.Sound.{Flows, Prefix, SpawnedBy, Sound}
+use Rattle.rules.specs.Commands.{Deed, undelivers, Beside, nothing, ownQueue, other, Move, post, entry, runState}
+use Rattle.rules.specs.Rules.{process, InFlight, Alone, Undoes, undo-alone, undo-send, undo-receive, undo-spawn, Does, forward, backward, sched, unsched}
+use Rattle.rules.specs.Sound.{Flows, Sound}
 use Rattle.rules.specs.Depends.{arrivals, Line, entriesOf, deliveriesTo, level}
 use Rattle.rules.specs.Rollback.{Cut, Removes, undoOf}
-use Rattle.rules.proofs.Views.{alone-send, alone-rec, alone-spawn}
 use Rattle.rules.proofs.Messages.{Any, here, there, any-append, any-left, any-right, any-middle, any-none, Named}
-use Rattle.rules.proofs.Histories.{Suffix, whole, older, suffix-length, suffix-top, suffix-entry, suffix-sent, sent-suffix}
-use Rattle.rules.proofs.Frame.{process-of, no-process, in-pool, history-of}
+use Rattle.rules.proofs.Histories.{Suffix, whole, older, suffix-length, suffix-top, suffix-sent, sent-suffix}
+use Rattle.rules.proofs.Frame.{process-of, no-process, history-of}
 use Rattle.rules.proofs.Questions.{Came, flight-of, flight-fresh}
 use Rattle.rules.proofs.Undo.{Backward}
 use Rattle.rules.proofs.SoundFacts.{child-lives}
-use Rattle.rules.proofs.Arrival.{come, come-nil, taken-nil, length-come, come-none, come-rec, come-more, flows-none, flows-rec, flows-long, swapped, any-come}
-use Rattle.rules.proofs.Event.{lineOf, line?, comeAt, come-taken, arrivals-at, Under, under-refl, under-trans, low, suffix-trans, Down}
+use Rattle.rules.proofs.Arrival.{come, come-nil, taken-nil, length-come, come-none, come-more, flows-none, flows-rec, flows-long, swapped, any-come}
+use Rattle.rules.proofs.Event.{lineOf, line?, comeAt, come-taken, arrivals-at, Under, under-refl, under-trans, suffix-trans, Down}
 use Rattle.rules.proofs.EventSound.{sound-undone}
-use Rattle.rules.proofs.EventDepends.{Stands, Arrives, stands-low, arrives-low}
-use Rattle.rules.proofs.Removal.{Undone, undone-of, of-undone, Back, halt, took, lower, back-under, sound-back, removes-run, front, lost, through}
+use Rattle.rules.proofs.EventDepends.{Stands, Arrives, arrives-low}
+use Rattle.rules.proofs.Removal.{Undone, undone-of, of-undone, Back, halt, took, lower, back-under, sound-back, removes-run, lost, through}
 use Rattle.rules.proofs.Cut.{IsCut}
 use Rattle.rules.proofs.Rollback.{cut-removes, removes-cut}
-use Rattle.rules.proofs.CutNumbers.{seen, seen-low, seen-first}
+use Rattle.rules.proofs.CutNumbers.{seen, seen-first}
 
 -- ---- the undo of the newest event that k keeps on a line
 pub data Can (s : State) (k : Cut) : Line → Type 0 where

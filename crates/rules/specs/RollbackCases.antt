@@ -6,7 +6,7 @@ use mathlib.Core.Option.{Option, none, some}
 use mathlib.Core.List.{List, [], _∷_, _++_}
 use Rattle.lists.specs.Tables.{put}
 use Rattle.rules.specs.Answers.{held}
-use Rattle.rules.specs.State.{Sizes, Message, Kind, seq, send, rec, spawn, self, check, Entry, Process, State}
+use Rattle.rules.specs.State.{Message, send, rec, spawn, check, Entry, Process, State}
 use Rattle.rules.specs.Commands.{entry}
 use Rattle.rules.specs.Text.{bytes}
 use Rattle.rules.specs.Rollback.{refused, rollback}

@@ -3,17 +3,16 @@
 -- name in proofs/RollbackDemands. Assumes nothing: these are definitions.
 use Prim.Native.Nat.{ℕ, zero, suc, _≤_, _+_, _-_}
 use mathlib.Core.Path.{_≡_}
-use mathlib.Core.Logic.{_⊎_, _↔_}
+use mathlib.Core.Logic.{_≢_, _⊎_, _↔_}
 use mathlib.Core.Bool.{true, false}
 use mathlib.Core.Option.{some}
 use mathlib.Core.List.{List, _∷_, _++_}
-use lib.ListN.{length}
 use Rattle.rules.specs.Answers.{held}
 use Rattle.rules.specs.State.{Message, Entry, Process, State, historyAt}
 use Rattle.rules.specs.Commands.{runState}
 use Rattle.rules.specs.Sound.{Sound}
 use Rattle.rules.specs.Depends.{arrivals, Line, entriesOf, deliveriesTo, level, happened, WithDependents}
-use Rattle.rules.specs.Rollback.{Removes, Rollback, event, stays, takenOff, cutBefore, undoOf, refused, rolled, numberOf, countOf, endOf, undoTo, rollback}
+use Rattle.rules.specs.Rollback.{Removes, Rollback, event, stays, cutBefore, undoOf, refused, rolled, numberOf, countOf, endOf, undoTo, rollback}
 use Rattle.rules.specs.Demands.{Reachable}
 
 -- An event with all that depend on it takes the newest entries and the latest deliveries of each process, ..
@@ -66,6 +65,7 @@ pub record RollbackIsExact : Type 0 where
 -- "After a load, rollback never gives 13."
 pub record NeverHeld : Type 0 where
   pub never : (s end : State) (p t n : ℕ) → Reachable s → ¬ Rollback s p t held n end
+  pub answers : (s : State) (p t : ℕ) → Reachable s → numberOf (rollback p t s) ≢ held
   -- any event can be removed with all that depend on it
   pub removable : (s : State) (x : Line) (i : ℕ) → Reachable s → happened s x i ≡ true → (end : State) × (n : ℕ) × Removes s end (WithDependents s x i) n
 
