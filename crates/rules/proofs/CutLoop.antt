@@ -1,22 +1,19 @@
 -- What a loop over numbers needs to find the cut of an event with all that depend on it: where it starts, each lowering, and that it has
 -- arrived where 01's list in numbers holds.
-use Prim.Native.Nat.{ℕ, suc, _<_, _≤_, _+_}
-use mathlib.Core.Path.{_≡_, refl, sym, _∙_, ap, subst, fun-ext}
-use mathlib.Core.Logic.{_⊎_, inl, inr}
-use mathlib.Core.Bool.{true}
+use Prim.Native.Nat.{ℕ, _<_, _≤_}
+use mathlib.Core.Path.{_≡_, fun-ext}
 use mathlib.Core.Option.{some}
-use mathlib.Core.List.{List, _∷_, _++_}
+use mathlib.Core.List.{List}
 use native.Mathlib.Decide.{decLt}
 use native.Mathlib.Omega.{arith}
-use lib.ListN.{length}
-use Rattle.rules.specs.State.{Message, Letter, letter, Taking, taking, asSend, asRec, asSpawn, Entry, State}
+use Rattle.rules.specs.State.{Message, letter, taking, asSend, asRec, asSpawn, Entry, State}
 use Rattle.rules.specs.Flight.{sends}
 use Rattle.rules.specs.Sound.{Sound}
 use Rattle.rules.specs.Depends.{Line, entriesOf, deliveriesTo, level, WithDependents}
 use Rattle.rules.specs.Rollback.{Cut, cutTo, event, cutBefore}
 use Rattle.rules.proofs.EventDepends.{Stands, Arrives}
 use Rattle.rules.proofs.Removal.{total}
-use Rattle.rules.proofs.Cut.{Upward, Within, IsCut, dependents-up, closed-cut, cut-at, cut-low, lowered-within, start-low, start-within, cut-is, cut-below, placeOf, place-below, total-less}
+use Rattle.rules.proofs.Cut.{Within, IsCut, dependents-up, closed-cut, cut-at, cut-low, lowered-within, start-low, start-within, cut-is, cut-below, place-below, total-less}
 use Rattle.rules.proofs.CutNumbers.{seen, Good, good-closed, pull-send, pull-child, pull-since, pull-rec}
 
 -- two cuts of one set are the same
@@ -36,8 +33,7 @@ module _ {s : State} (sound : Sound s) (x : Line) (i : ℕ) (happens : i < level
   -- each lowering lowers the sum of the numbers
   loop-lower : {k : Cut} (y : Line) (j : ℕ) → Loop k → j < k y → (j < level s y → WithDependents s x i y j) → Loop (cutTo y j k) × (total (s .sizes .places) (cutTo y j k) < total (s .sizes .places) k)
   loop-lower {k} y j l h inside =
-      let below : (z : Line) → cutTo y j k z ≤ k z = cut-low y {i = j} k (omega arith) in
-      (
+      let below : (z : Line) → cutTo y j k z ≤ k z = cut-low y {i = j} k (omega arith) in (
         record { within = lowered-within (dependents-up s x i) y j (l .within) inside; low = λ z. omega (arith, below z, l .low z); takes = omega (arith, below x, l .takes) },
         total-less (s .sizes .places) y (cutTo y j k) k (place-below sound y {i = j} (omega (arith, h, l .low y))) (omega (arith, h, cut-at y j k)) below,
       )

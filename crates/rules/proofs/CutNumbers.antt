@@ -96,7 +96,7 @@ module _ {s : State} (sound : Sound s) {q i : ℕ} {e : Entry} {g : List Entry} 
     pub sees : j < seen a m d g → Any (Like n) ((a ++ (m ∷ d)) ++ taken g)
     sees h = any-come g (a ++ (m ∷ d)) before-flows .0
         (any-map (λ k i. record { sender = ap (λ z. z .sender) i; count = ap (λ z. z .count) i })
-          (is-left (r .before) (come g (a ++ (m ∷ d))) n (r .after) (split .0) (sym (r .at) ∙ split .1) (omega (arith, r .index, h))))
+        (is-left (r .before) (come g (a ++ (m ∷ d))) n (r .after) (split .0) (sym (r .at) ∙ split .1) (omega (arith, r .index, h))))
 
     pub saw : Any (Like n) ((a ++ (m ∷ d)) ++ taken g) → j < seen a m d g
     saw x = elim (decLt j (seen a m d g)) [

@@ -11,6 +11,7 @@ pub mod RollbackDemands
 pub mod CutNumbers
 pub mod CutLoop
 pub mod SearchNumbers
+pub mod SearchLoop
 pub mod RollbackExamples
 pub mod Views
 pub mod Messages

@@ -299,12 +299,17 @@ module _ {t : State} (sound : Sound t) where
   does-can (backward {p} i (undo-spawn {q} j e n)) x =
       can-spawn (top-at i) refl (top-level i) (sym (level-history q) ∙ ap length (history-of t q j)) (omega (arith, level-come q, ap length e, ap (λ z. length (taken z)) (history-of t q j), ap length taken-nil))
       λ u k v f h st is.
-          let out = suffix-sent (st .at) is in
-          absurd (n u (sends h) v (flight-of t u (sends h) q out (sound .targets-in-pool u (sends h) q v out) (λ c. elim c [ inl y ↦ any-none y e | inr y ↦ any-none y (ap taken (history-of t q j) ∙ taken-nil) ])))
+      let out = suffix-sent (st .at) is in
+      absurd (n u (sends h) v (flight-of t u (sends h) q out (sound .targets-in-pool u (sends h) q v out) (λ c. elim c [ inl y ↦ any-none y e | inr y ↦ any-none y (ap taken (history-of t q j) ∙ taken-nil) ])))
   does-can (sched _ _) x = absurd x
   does-can (unsched {t = q} m {queue} v i g) x =
-      can-undeliver {q = q} {j = length (come (historyAt t q) queue)} (omega (arith, level-at q, ap (λ z. length (come (historyAt t q) z)) i,
-        ap length (come-more (historyAt t q) queue (m ∷ []) (omega (arith, g, length-append queue (m ∷ [])))), length-append (come (historyAt t q) queue) (m ∷ [])))
+      can-undeliver {q = q} {j = length (come (historyAt t q) queue)} (omega (
+        arith,
+        level-at q,
+        ap (λ z. length (come (historyAt t q) z)) i,
+        ap length (come-more (historyAt t q) queue (m ∷ []) (omega (arith, g, length-append queue (m ∷ [])))),
+        length-append (come (historyAt t q) queue) (m ∷ []),
+      ))
       λ k a n d f h st is l. let (y, z) = seen-first queue (st .at) is in omega (arith, ap length z, length-append (come h (a ++ (n ∷ d))) y)
 
 -- ---- the simulation: a cut is lowered by one
@@ -353,8 +358,7 @@ run-cuts sound under (took a b r) =
 pub can-accepted : {s t : State} {n : ℕ} (x : Line) → Sound s → Back s t n → Can s (level t) x ↔ ((m : State) × (runState (undoOf x) t ≡ some m))
 can-accepted {s} {t} x sound r =
     let t-sound = sound-back sound r in
-    let under = back-under sound r in
-    (
+    let under = back-under sound r in (
       λ c. let (m, u) = can-does t-sound (can-under under .0 c) in (m, of-undone u),
       λ (m, e). let u = undone-of x t-sound e in can-under under .1 (subst (Can t (level t)) (u .on) (does-can t-sound (u .does) (u .undoes-it))),
     )
