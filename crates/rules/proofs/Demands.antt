@@ -22,6 +22,7 @@ use Rattle.rules.specs.Reverse.{reverse, isForward, amountDone}
 use Rattle.rules.specs.Demands.{Reachable, Commute, AreTheRules, StaysSound, StepsReverse, IndependentCommute, CausallyConsistent, Demands}
 use Rattle.rules.proofs.RunSound.{run-sound}
 use Rattle.rules.proofs.RunComplete.{run-complete}
+use Rattle.rules.proofs.Refusals.{refusals}
 use Rattle.rules.proofs.Deeds.{target}
 use Rattle.rules.proofs.Square.{Calm, calm-sym, apart-sym}
 use Rattle.rules.proofs.Undo.{Undo, Backward, apart-none}
@@ -135,6 +136,7 @@ module _ (laws-of : (module′ : List ℕ) (sizes : Sizes) → goodSizes sizes �
     rules = record {
       accepted-is-allowed = λ s c d w sound e. run-sound s (sound .pool-ends) c e;
       allowed-is-accepted = λ s d w a. run-complete a;
+      refused-is-listed = λ s c n sound. refusals s (sound .pool-ends) c n;
     };
     sound = record {
       loaded = λ module′ sizes s e. load-reached (loads-of module′ sizes e) .sound;

@@ -27,3 +27,4 @@ pub mod Causal
 pub mod ExactlyOnce
 pub mod Demands
 pub mod Examples
+pub mod Refusals

@@ -26,15 +26,20 @@ unfolding making
 allowed s p control h {next} beside room size =
     need-true tooLarge _ (leb-of (length next) (s .sizes .words) size) ∙ need-true historyFull _ (ltb-of (length h) (s .sizes .entries) room)
 
+-- a rule that p could take is what its command comes to
+pub run-making : {s : State} {p : ℕ} {control next : List ℕ} {history : List Entry} {kind : Kind} {beside : Beside} → s .processes p ≡ some (process control history)
+    → Makes s p control kind next beside → run (makingOf p kind) s ≡ making s p (process control history) kind next beside
+unfolding run makingOf atProcess stepping receiving spawning
+run-making i (alone (by-seq e)) = rw (i, e) refl
+run-making i (alone (by-self e)) = rw (i, e) refl
+run-making i (alone (by-check e)) = rw (i, e) refl
+run-making i (by-send e live) = rw (i, e) (need-true stuck _ live)
+run-making i (by-receive e g) = rw (i, e, g) refl
+run-making {s} i (by-spawn {f} e below free) = rw (i, e) (need-true placeTaken _ (ltb-of f (s .sizes .places) below) ∙ need-true placeTaken _ (ap not free))
+
 pub run-complete : {s : State} {d : Deed} {w : Move} → Does s d w → run (commandOf d) s ≡ accept d w
-unfolding run commandOf makingOf atProcess stepping receiving spawning backing undoing undone untouched undelivering delivering
-run-complete {s} (forward {p} {control} {history} i (alone (by-seq e)) r z) = rw (i, e) (allowed s p control history nothing r z)
-run-complete {s} (forward {p} {control} {history} i (alone (by-self e)) r z) = rw (i, e) (allowed s p control history nothing r z)
-run-complete {s} (forward {p} {control} {history} i (alone (by-check e)) r z) = rw (i, e) (allowed s p control history nothing r z)
-run-complete {s} (forward {p} {control} {history} i (by-send e live) r z) = rw (i, e) (need-true stuck _ live ∙ allowed s p control history nothing r z)
-run-complete {s} (forward {p} {control} {history} i (by-receive {older} {newer} e g) r z) = rw (i, e, g) (allowed s p control history (ownQueue (older ++ newer)) r z)
-run-complete {s} (forward {p} {control} {history} i (by-spawn {f} e below free) r z) =
-    rw (i, e) (need-true placeTaken _ (ltb-of f (s .sizes .places) below) ∙ need-true placeTaken _ (ap not free) ∙ allowed s p control history _ r z)
+unfolding run commandOf atProcess backing undoing undone untouched undelivering delivering
+run-complete {s} (forward {p} {control} {history} {beside} i mk r z) = run-making i mk ∙ allowed s p control history beside r z
 run-complete (backward i (undo-alone seq-alone)) = rw i refl
 run-complete (backward i (undo-alone self-alone)) = rw i refl
 run-complete (backward i (undo-alone check-alone)) = rw i refl

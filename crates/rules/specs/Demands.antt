@@ -15,10 +15,11 @@ use Rattle.causal.specs.Exec.{Step, runAll}
 use Rattle.rules.specs.State.{Message, Letter, letter, Sizes, State, historyAt, isNamed}
 use Rattle.rules.specs.Flight.{sent, taken, flies}
 use Rattle.rules.specs.Load.{loads, load}
-use Rattle.rules.specs.Commands.{Command, undeliver, Deed, Move, accept, run, runState}
+use Rattle.rules.specs.Commands.{Command, undeliver, Deed, Move, refuse, accept, run, runState}
 use Rattle.rules.specs.Sound.{Sound}
 use Rattle.rules.specs.Independent.{Independent}
 use Rattle.rules.specs.Rules.{Does, commandOf}
+use Rattle.rules.specs.Refusals.{Refused}
 use Rattle.rules.specs.Reverse.{reverse, isForward, amountDone}
 
 -- a state reached from a load: accepted commands lead there
@@ -49,10 +50,12 @@ pub record Commute (s : State) (t u : Command) : Type 0 where
   pub u-first : runState u s ≡ some after-u
   pub then-t : runState t after-u ≡ some end
 
--- "000 .. gives the rules": a command is accepted exactly where a rule allows its deed.
+-- "000 .. gives the rules": a command is accepted exactly where a rule allows its deed, and is refused with a number exactly where 01's
+-- table and order give it.
 pub record AreTheRules : Type 0 where
   pub accepted-is-allowed : (s : State) (c : Command) (d : Deed) (w : Move) → Sound s → run c s ≡ accept d w → Does s d w × (commandOf d ≡ c)
   pub allowed-is-accepted : (s : State) (d : Deed) (w : Move) → Does s d w → run (commandOf d) s ≡ accept d w
+  pub refused-is-listed : (s : State) (c : Command) (n : ℕ) → Sound s → (run c s ≡ refuse n) ↔ Refused s c n
 
 pub record StaysSound : Type 0 where
   -- a load is sound, an accepted command takes a sound state to a sound state, ..

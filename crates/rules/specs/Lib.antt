@@ -4,6 +4,7 @@ pub mod Flight
 pub mod Load
 pub mod Commands
 pub mod Rules
+pub mod Refusals
 pub mod Reverse
 pub mod Sound
 pub mod Independent
