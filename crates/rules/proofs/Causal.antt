@@ -1,20 +1,20 @@
 -- The laws of reversible systems hold of `run` from a load, so it is causally consistent.
 use Prim.Native.Nat.{ℕ, suc}
 use mathlib.Core.Path.{_≡_, refl, sym, _∙_, ap, subst, subst₂}
-use mathlib.Core.Logic.{_≢_, _⊎_, inl, inr}
-use mathlib.Core.Bool.{Bool, true, false, not}
-use mathlib.Core.Option.{Option, none, some}
-use mathlib.Core.List.{List, [], _∷_, _++_}
+use mathlib.Core.Logic.{_≢_, inl, inr}
+use mathlib.Core.Bool.{true, false, not}
+use mathlib.Core.Option.{some}
+use mathlib.Core.List.{List, [], _∷_}
 use native.Mathlib.Decide.{ℕ-discrete}
 use native.Mathlib.Omega.{arith}
 use lib.ListN.{length, length-append}
-use Rattle.lists.proofs.Tests.{none-not-some, true-not-false, true-or-false}
+use Rattle.lists.proofs.Tests.{true-or-false}
 use Rattle.causal.specs.Laws.{Laws}
 use Rattle.causal.specs.Exec.{Step, ConsistencyOfRuns}
 use Rattle.causal.proofs.Exec.{consistency-of-runs, exec-deterministic}
-use Rattle.rules.specs.State.{Sizes, Kind, Entry, State, historyAt}
-use Rattle.rules.specs.Load.{goodSizes, loaded}
-use Rattle.rules.specs.Commands.{Command, Command-discrete, deliver, Deed, makes, undoes, delivers, undelivers, Move, apply, accept, run, runState, entry}
+use Rattle.rules.specs.State.{Sizes, State}
+use Rattle.rules.specs.Load.{loaded}
+use Rattle.rules.specs.Commands.{Command, Command-discrete, deliver, Deed, Move, apply, runState}
 use Rattle.rules.specs.Rules.{Does, forward, backward, sched, unsched, commandOf}
 use Rattle.rules.specs.Independent.{Apart, actor, IndependentDeeds, Independent}
 use Rattle.rules.specs.Sound.{Sound}
@@ -22,7 +22,7 @@ use Rattle.rules.specs.Reverse.{undeliverOf, reverse, isForward, amountD
 use Rattle.rules.proofs.Histories.{nil-cons}
 use Rattle.rules.proofs.Frame.{keep-process, history-of}
 use Rattle.rules.proofs.Questions.{live-spawns, actor-live}
-use Rattle.rules.proofs.Square.{independent-sym, apart-sym}
+use Rattle.rules.proofs.Square.{independent-sym}
 use Rattle.rules.proofs.RunSound.{run-sound}
 use Rattle.rules.proofs.Undo.{Undo, Undid, undo-forward, undid-forward, undo-deliver, undid-deliver, Backward}
 use Rattle.rules.proofs.Knows.{calm}

@@ -1,17 +1,16 @@
 -- What the demands say of some runs: the hypotheses hold of a run with a spawn, a send, a delivery and a receive.
 use Prim.Native.Nat.{ℕ}
-use mathlib.Core.Path.{_≡_, refl, sym, _∙_, ap}
-use mathlib.Core.Bool.{true, false}
-use mathlib.Core.Option.{Option, none, some}
+use mathlib.Core.Path.{_≡_, refl, ap}
+use mathlib.Core.Option.{none, some}
 use mathlib.Core.List.{List, [], _∷_}
 use native.Mathlib.Omega.{arith}
-use Rattle.causal.specs.Paths.{Change, exchange, later, Turns, unchanged, changed, Run}
+use Rattle.causal.specs.Paths.{exchange, later, Turns, unchanged, changed}
 use Rattle.causal.specs.Exec.{Step, runAll}
 use Rattle.causal.proofs.Exec.{of-run}
-use Rattle.rules.specs.State.{State, Kind, seq, send, asSend, asRec, asSpawn}
+use Rattle.rules.specs.State.{State, seq, send}
 use Rattle.rules.specs.Load.{loaded, loads, load}
-use Rattle.rules.specs.Commands.{Command, step, spawnInto, deliver, back, undeliver, makes, runState}
-use Rattle.rules.specs.Independent.{Apart, actor, mailbox, actsAt, ifRec, receiver, spawnsInto, unspawns, Crossed, IndependentDeeds, Independent}
+use Rattle.rules.specs.Commands.{Command, step, spawnInto, deliver, makes, runState}
+use Rattle.rules.specs.Independent.{Apart, actor, mailbox, actsAt, ifRec, receiver, spawnsInto, unspawns, Crossed, Independent}
 use Rattle.rules.specs.Reverse.{reverse}
 use Rattle.rules.specs.Opened.{opened}
 use Rattle.rules.specs.Cases.{benchSizes, pair, two}

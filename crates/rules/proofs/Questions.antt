@@ -1,26 +1,25 @@
 -- What the rules ask of a state, before and after another accepted command.
-use Prim.Native.Nat.{ℕ, suc, _<_}
+use Prim.Native.Nat.{ℕ}
 use mathlib.Core.Path.{_≡_, refl, sym, _∙_, ap}
-use mathlib.Core.Logic.{_≢_, _⊎_, inl, inr}
-use mathlib.Core.Bool.{Bool, true, false, not, _&&_, _||_}
+use mathlib.Core.Logic.{_⊎_, inl, inr}
+use mathlib.Core.Bool.{true, false, not}
 use mathlib.Core.Option.{Option, none, some}
 use mathlib.Core.List.{List, [], _∷_, _++_}
 use native.Mathlib.Decide.{ℕ-discrete}
-use native.Mathlib.Omega.{arith}
 use Rattle.lists.specs.Lists.{any}
 use Rattle.lists.specs.Tables.{put}
 use Rattle.lists.proofs.Tables.{put-same, put-other}
 use Rattle.lists.proofs.Tests.{true-not-false, true-or-false, none-not-some, some-injective, and-left, and-right, and-of, not-true, or-true, or-left, or-right}
 use Rattle.rules.specs.State.{Message, Letter, letter, Taking, taking, Kind, asSend, asRec, asSpawn, Entry, Process, State, historyOf, historyAt, isProcess, inPool, isNamed}
-use Rattle.rules.specs.Flight.{sends, letterOr, sent, alsoTaken, taken, leftOr, left, hasCome, flies}
-use Rattle.rules.specs.Commands.{Deed, makes, undoes, delivers, undelivers, Beside, Move, turn, post, setProcess, setQueue, setBeside, apply, pick, entry}
-use Rattle.rules.specs.Rules.{process, message, InFlight, Makes, alone, by-send, by-receive, by-spawn, Undoes, undo-alone, undo-send, undo-receive, undo-spawn, Does, forward, backward, sched, unsched}
-use Rattle.rules.specs.Independent.{Apart, actor, mailbox, ifRec, receiver, spawnsInto, unspawns, Unsends}
-use Rattle.rules.proofs.Views.{made-alone, alone-send, alone-rec, alone-spawn}
-use Rattle.rules.proofs.Messages.{Any, here, there, any-append, any-left, any-more, any-middle, any-less, any-one, Named, find-named, named-found, pick-is}
+use Rattle.rules.specs.Flight.{sends, sent, alsoTaken, taken, left, hasCome, flies}
+use Rattle.rules.specs.Commands.{Deed, undoes, delivers, Beside, Move, setProcess, setQueue, setBeside, apply}
+use Rattle.rules.specs.Rules.{message, InFlight, Makes, alone, by-send, by-receive, by-spawn, undo-alone, undo-send, undo-receive, undo-spawn, Does, forward, backward, sched, unsched}
+use Rattle.rules.specs.Independent.{Apart, actor, ifRec, receiver, spawnsInto, unspawns, Unsends}
+use Rattle.rules.proofs.Views.{made-alone, alone-rec}
+use Rattle.rules.proofs.Messages.{Any, here, any-append, any-left, any-more, any-middle, any-less, any-one, Named, find-named, named-found, pick-is}
 use Rattle.rules.proofs.Histories.{letter-older, letter-which, sent-below, below-not-same, left-older, taken-older, taken-more, taken-which}
 use Rattle.rules.proofs.Deeds.{targetOf, target, unspawning, spawning}
-use Rattle.rules.proofs.Frame.{Turned, same, grown, shrunk, turned, keep-process, keep-queue, no-process, process-of, in-pool, not-in-pool, history-of}
+use Rattle.rules.proofs.Frame.{Turned, same, grown, shrunk, turned, keep-process, in-pool}
 
 -- ---- messages in flight
 -- a message with the property has come to t

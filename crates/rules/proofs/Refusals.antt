@@ -8,15 +8,15 @@ use mathlib.Core.List.{List, [], _∷_, _++_}
 use native.Mathlib.Omega.{arith}
 use lib.Dec.{leb, ltb}
 use lib.ListN.{length}
-use Rattle.lists.proofs.Tests.{true-not-false, true-or-false, none-not-some, leb-false, leb-over, leb-of, leb-true, ltb-false, ltb-over, ltb-of, ltb-true, not-true, not-false, and-false}
+use Rattle.lists.proofs.Tests.{true-not-false, true-or-false, none-not-some, leb-false, leb-over, leb-of, leb-true, ltb-false, ltb-over, ltb-of, ltb-true, not-true, not-false}
 use Rattle.machine.specs.Work.{Work, toSeq, toSend, toReceive, toSpawn, toSelf, toCheck, work}
 use Rattle.machine.specs.Work
-use Rattle.rules.specs.Answers.{noProcess, finished, waiting, stuck, wrongCommand, placeTaken, tooLarge, historyFull, noMessage, nothingToUndo, held}
+use Rattle.rules.specs.Answers.{noProcess, finished, stuck, wrongCommand, placeTaken, tooLarge, historyFull, noMessage, held}
 use Rattle.rules.specs.State.{Message, Letter, letter, Kind, seq, send, rec, spawn, self, check, Entry, Process, State, historyAt, inPool, sameQueue}
 use Rattle.rules.specs.Flight.{sends, sent, left, flies, awaited}
 use Rattle.rules.specs.Load.{newProcess}
-use Rattle.rules.specs.Commands.{Command, step, spawnInto, deliver, back, undeliver, Deed, makes, Beside, nothing, ownQueue, other, Move, turn, Plan, refuse, accept, need, Picked, picked, pick, entry, making, receiving, stepping, spawning, undone, isNew, untouched, undoing, backing, undelivering, delivering, atProcess, run}
-use Rattle.rules.specs.Rules.{process, InFlight, MakesAlone, by-seq, by-self, by-check, Makes, alone, by-send, by-receive, by-spawn, Undoes, Does, forward, backward, sched, unsched, makingOf, commandOf}
+use Rattle.rules.specs.Commands.{Command, step, spawnInto, deliver, back, undeliver, Deed, makes, Beside, nothing, other, Move, turn, Plan, refuse, accept, need, Picked, picked, pick, entry, making, receiving, stepping, spawning, undone, isNew, untouched, undoing, backing, undelivering, delivering, atProcess, run}
+use Rattle.rules.specs.Rules.{process, by-seq, by-self, by-check, Makes, alone, by-send, by-receive, by-spawn, Undoes, Does, forward, backward, sched, unsched, makingOf, commandOf}
 use Rattle.rules.specs.Refusals.{For, for-step, for-spawn, for-back, for-undeliver, Goes, goes-step, goes-spawn, Refused, not-in-pool, is-finished, step-at-spawn, spawn-elsewhere, nothing-matches, is-stuck, target-missing, beyond-places, place-in-pool, too-large, history-full, Elsewhere, at-nothing, at-seq, at-send, at-receive, at-self, at-check, not-in-flight, no-entry, no-message-queued, entry-held, message-held}
 use Rattle.rules.specs.Reverse.{isForward}
 use Rattle.rules.proofs.Deeds.{process-history}

@@ -1,21 +1,19 @@
 -- What a rule allows is accepted by `run`.
 use Prim.Native.Nat.{ℕ, _<_, _≤_}
-use mathlib.Core.Path.{_≡_, refl, sym, _∙_, ap, subst}
-use mathlib.Core.Bool.{Bool, true, false, not, _&&_}
-use mathlib.Core.Option.{Option, none, some}
+use mathlib.Core.Path.{_≡_, refl, _∙_, ap}
+use mathlib.Core.Bool.{not}
+use mathlib.Core.Option.{some}
 use mathlib.Core.List.{List, [], _∷_, _++_}
 use native.Mathlib.Omega.{arith}
-use lib.Dec.{leb, ltb}
 use lib.ListN.{length, length-append}
 use Rattle.lists.specs.Lists.{butLast}
 use Rattle.lists.proofs.Tests.{leb-of, ltb-of, and-of}
 use Rattle.lists.proofs.Lists.{butLast-before}
-use Rattle.machine.specs.Work.{work}
 use Rattle.rules.specs.Answers.{stuck, placeTaken, tooLarge, historyFull, noMessage, held}
-use Rattle.rules.specs.State.{Message, Letter, letter, Kind, Entry, Process, State, historyAt, inPool, sameQueue}
-use Rattle.rules.specs.Flight.{sends, sent, left, flies, awaited}
-use Rattle.rules.specs.Commands.{Command, Deed, makes, undoes, delivers, undelivers, Beside, nothing, ownQueue, other, Move, turn, post, Plan, accept, need, Picked, picked, pick, entry, making, receiving, stepping, spawning, undone, isNew, untouched, undoing, backing, undelivering, delivering, atProcess, run}
-use Rattle.rules.specs.Rules.{process, message, InFlight, MakesAlone, by-seq, by-self, by-check, Makes, alone, by-send, by-receive, by-spawn, Alone, seq-alone, self-alone, check-alone, Undoes, undo-alone, undo-send, undo-receive, undo-spawn, Does, forward, backward, sched, unsched, makingOf, commandOf}
+use Rattle.rules.specs.State.{Message, Kind, Entry, Process, State}
+use Rattle.rules.specs.Flight.{left}
+use Rattle.rules.specs.Commands.{Deed, makes, delivers, undelivers, Beside, Move, turn, post, accept, entry, making, receiving, stepping, spawning, undone, untouched, undoing, backing, undelivering, delivering, atProcess, run}
+use Rattle.rules.specs.Rules.{process, message, by-seq, by-self, by-check, Makes, alone, by-send, by-receive, by-spawn, seq-alone, self-alone, check-alone, undo-alone, undo-send, undo-receive, undo-spawn, Does, forward, backward, sched, unsched, makingOf, commandOf}
 use Rattle.rules.proofs.Messages.{queue-same}
 use Rattle.rules.proofs.Frame.{process-of, history-of}
 use Rattle.rules.proofs.Plans.{need-true, of-quiet, of-new}

@@ -1,7 +1,7 @@
 -- What is demanded of the rules, and nothing else: sound states stay sound, every step can be undone and retaken, independent steps
 -- commute, and runs are causally consistent. Each statement is shown by its name in proofs/Demands.
 -- Assumes nothing: these are definitions.
-use Prim.Native.Nat.{ℕ, _≤_, _+_}
+use Prim.Native.Nat.{ℕ, _+_}
 use mathlib.Core.Path.{_≡_}
 use mathlib.Core.Logic.{_≢_, _⊎_, _↔_}
 use mathlib.Core.Bool.{true, false}
@@ -12,7 +12,7 @@ use Rattle.lists.specs.Lists.{keep}
 use Rattle.causal.specs.Paths.{Turns}
 use Rattle.causal.specs.Causal.{Parabola, ForwardOnly}
 use Rattle.causal.specs.Exec.{Step, runAll}
-use Rattle.rules.specs.State.{Message, Letter, letter, Sizes, State, historyAt, isNamed}
+use Rattle.rules.specs.State.{letter, Sizes, State, historyAt, isNamed}
 use Rattle.rules.specs.Flight.{sent, taken, flies}
 use Rattle.rules.specs.Load.{loads, load}
 use Rattle.rules.specs.Commands.{Command, undeliver, Deed, Move, refuse, accept, run, runState}

@@ -10,7 +10,7 @@ use lib.ListN.{length}
 use Rattle.machine.specs.Work.{Work, toSeq, toSend, toReceive, toSpawn, toSelf, toCheck, work}
 use Rattle.machine.specs.Work
 use Rattle.rules.specs.Answers.{noProcess, finished, waiting, stuck, wrongCommand, placeTaken, tooLarge, historyFull, noMessage, nothingToUndo, held}
-use Rattle.rules.specs.State.{Message, Kind, Entry, State, historyAt, inPool}
+use Rattle.rules.specs.State.{Kind, Entry, State, historyAt, inPool}
 use Rattle.rules.specs.Flight.{sends, left}
 use Rattle.rules.specs.Commands.{Command, step, spawnInto, deliver, back, undeliver, Beside, pick, entry}
 use Rattle.rules.specs.Rules.{process, InFlight, Makes, Undoes, makingOf}
