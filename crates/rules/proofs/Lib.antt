@@ -22,6 +22,7 @@ pub mod Replay
 pub mod Amount
 pub mod Reached
 pub mod Corner
+pub mod SameCommand
 pub mod Steps
 pub mod Causal
 pub mod ExactlyOnce
