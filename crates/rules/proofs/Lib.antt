@@ -29,3 +29,4 @@ pub mod ExactlyOnce
 pub mod Demands
 pub mod Examples
 pub mod Refusals
+pub mod Limits
