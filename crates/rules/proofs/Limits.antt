@@ -16,12 +16,12 @@ use Rattle.term.specs.Module.{checkModule}
 use Rattle.rules.specs.State.{seq, send, spawn, asSend, asRec, asSpawn, asCheck, Entry, Process, State, historyAt, entryAt, inPool}
 use Rattle.rules.specs.Flight.{letterOr, sent, alsoTaken, taken}
 use Rattle.rules.specs.Load.{goodSizes, newProcess}
-use Rattle.rules.specs.Commands.{step, back, makes, undoes, entry, runState}
+use Rattle.rules.specs.Commands.{step, makes, undoes, entry, runState}
 use Rattle.rules.specs.Rules.{process, makingOf}
 use Rattle.rules.specs.Sound.{SoundControl, distinct, Flows, SpawnedBy, Sound}
-use Rattle.rules.specs.Independent.{Apart, actor, mailbox, actsAt, ifRec, receiver, spawnsInto, unspawns, Unsends, Crossed, Independent}
+use Rattle.rules.specs.Independent.{Apart, actor, mailbox, actsAt, ifRec, receiver, spawnsInto, unspawns, Unsends, Crossed}
 use Rattle.rules.specs.Reverse.{reverse, retake}
-use Rattle.rules.specs.Demands.{Commute}
+use Rattle.rules.specs.Limits.{NotRetaken, NotCommuting}
 use Rattle.rules.specs.Opened.{opened}
 use Rattle.rules.specs.Cases.{pair}
 use Rattle.rules.proofs.Histories.{Suffix, entry-suffix, suffix-cons, no-suffix}
@@ -160,14 +160,6 @@ stale-sound = still-sound (record {
     born zero live n = absurd (n refl)
     born (suc q) live n = true-not-false live refl
 
--- In a sound state: the newest entry is undone, and its own command is then refused.
-pub record NotRetaken : Type 0 where
-  pub state : State
-  pub sound : Sound state
-  pub after : State
-  pub undone : runState (back 0) state ≡ some after
-  pub refused : runState (reverse state (back 0)) after ≡ none
-
 pub not-retaken : NotRetaken
 unfolding stale still placed opened reverse retake makingOf
 not-retaken = record { state = stale; sound = stale-sound; after = _; undone = refl; refused = refl }
@@ -267,13 +259,6 @@ stranger-sound = still-sound (record {
     children : (q i : ℕ) → ((q ≡ 1) × (i ≡ 1)) ⊎ ((q ≡ 2) × (i ≡ 0)) → inPool stranger q ≡ true
     children q i (inl x) = rw (x .0) refl
     children q i (inr x) = rw (x .0) refl
-
--- In a sound state: two steps that 01 calls independent, and after the one the other is refused.
-pub record NotCommuting : Type 0 where
-  pub state : State
-  pub sound : Sound state
-  pub independent : Independent state (back 0) (step 2)
-  pub do-not-commute : ¬ Commute state (back 0) (step 2)
 
 pub not-commuting : NotCommuting
 unfolding stranger still placed opened Apart actor mailbox actsAt ifRec receiver spawnsInto unspawns Unsends Crossed

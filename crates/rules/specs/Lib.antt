@@ -18,3 +18,4 @@ pub mod Opened
 pub mod Bench
 pub mod Cases
 pub mod Demands
+pub mod Limits
