@@ -3,6 +3,9 @@ pub mod State
 pub mod Flight
 pub mod Load
 pub mod Commands
+pub mod Rules
+pub mod Refusals
+pub mod Reverse
 pub mod Sound
 pub mod Independent
 pub mod Depends
@@ -14,3 +17,5 @@ pub mod Replies
 pub mod Opened
 pub mod Bench
 pub mod Cases
+pub mod Demands
+pub mod Limits
