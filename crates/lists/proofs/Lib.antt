@@ -1,2 +1,4 @@
 pub mod Tests
 pub mod Tables
+pub mod All
+pub mod Fill

@@ -1,0 +1,110 @@
+-- Laws of lists every element of which has a property, and of maps over them.
+use Prim.Native.Nat.{ℕ, zero, suc, _<_}
+use mathlib.Core.Path.{_≡_, refl, sym, _∙_, ap}
+use mathlib.Core.List.{List, [], _∷_, _++_, map, reverse, reverseAux}
+use native.Mathlib.Omega.{arith}
+use lib.ListN.{length, getD}
+use Rattle.lists.specs.Lists.{All, joined, upTo}
+
+module _ {A : Type 0} (P : A → Type 0) where
+  pub all-append : (xs ys : List A) → All P xs → All P ys → All P (xs ++ ys)
+  unfolding All
+  all-append [] ys a b = b
+  all-append (x ∷ xs) ys a b = (a .0, all-append xs ys (a .1) b)
+
+  pub all-left : (xs ys : List A) → All P (xs ++ ys) → All P xs
+  unfolding All
+  all-left [] ys a = tt
+  all-left (x ∷ xs) ys a = (a .0, all-left xs ys (a .1))
+
+  pub all-right : (xs ys : List A) → All P (xs ++ ys) → All P ys
+  unfolding All
+  all-right [] ys a = a
+  all-right (x ∷ xs) ys a = all-right xs ys (a .1)
+
+  pub all-head : (x : A) (xs : List A) → All P (x ∷ xs) → P x
+  unfolding All
+  all-head x xs a = a .0
+
+  pub all-tail : (x : A) (xs : List A) → All P (x ∷ xs) → All P xs
+  unfolding All
+  all-tail x xs a = a .1
+
+  pub all-none : All P []
+  unfolding All
+  all-none = tt
+
+  pub all-cons : (x : A) (xs : List A) → P x → All P xs → All P (x ∷ xs)
+  unfolding All
+  all-cons x xs p a = (p, a)
+
+  -- the same with one element more or moved in the middle
+  pub all-middle : (xs : List A) (y : A) (ys : List A) → All P (xs ++ ys) → P y → All P (xs ++ (y ∷ ys))
+  all-middle xs y ys a p = all-append xs (y ∷ ys) (all-left xs ys a) (all-cons y ys p (all-right xs ys a))
+
+  all-onto : (xs ys : List A) → All P xs → All P ys → All P (reverseAux xs ys)
+  unfolding All
+  all-onto [] ys a b = b
+  all-onto (x ∷ xs) ys a b = all-onto xs (x ∷ ys) (a .1) (a .0, b)
+
+  pub all-reverse : (xs : List A) → All P xs → All P (reverse xs)
+  all-reverse xs a = all-onto xs [] a all-none
+
+  pub all-joined : (xss : List (List A)) → All (All P) xss → All P (joined xss)
+  unfolding All joined
+  all-joined [] a = tt
+  all-joined (xs ∷ xss) a = all-append xs (joined xss) (a .0) (all-joined xss (a .1))
+
+  pub all-getD : (xs : List A) (i : ℕ) (d : A) → All P xs → i < length xs → P (getD xs i d)
+  unfolding All
+  all-getD [] i d a h = absurd (omega arith)
+  all-getD (x ∷ xs) zero d a h = a .0
+  all-getD (x ∷ xs) (suc i) d a h = all-getD xs i d (a .1) (omega arith)
+
+module _ {A : Type 0} where
+  -- from one property to another
+  pub all-so : {P Q : A → Type 0} → ((x : A) → P x → Q x) → (xs : List A) → All P xs → All Q xs
+  unfolding All
+  all-so f [] a = tt
+  all-so f (x ∷ xs) a = (f x (a .0), all-so f xs (a .1))
+
+  pub all-any : {P : A → Type 0} → ((x : A) → P x) → (xs : List A) → All P xs
+  unfolding All
+  all-any f [] = tt
+  all-any f (x ∷ xs) = (f x, all-any f xs)
+
+  -- a map that changes nothing
+  pub map-same : (f : A → A) (xs : List A) → All (λ x. f x ≡ x) xs → map f xs ≡ xs
+  unfolding All
+  map-same f [] a = refl
+  map-same f (x ∷ xs) a = λ i. (a .0 i) ∷ (map-same f xs (a .1) i)
+
+module _ {A B : Type 0} where
+  pub all-map : (P : B → Type 0) (f : A → B) (xs : List A) → All (λ x. P (f x)) xs → All P (map f xs)
+  unfolding All
+  all-map P f [] a = tt
+  all-map P f (x ∷ xs) a = (a .0, all-map P f xs (a .1))
+
+  -- maps that agree
+  pub map-agree : (f g : A → B) (xs : List A) → All (λ x. f x ≡ g x) xs → map f xs ≡ map g xs
+  unfolding All
+  map-agree f g [] a = refl
+  map-agree f g (x ∷ xs) a = λ i. (a .0 i) ∷ (map-agree f g xs (a .1) i)
+
+  map-onto : (f : A → B) (xs ys : List A) → map f (reverseAux xs ys) ≡ reverseAux (map f xs) (map f ys)
+  map-onto f [] ys = refl
+  map-onto f (x ∷ xs) ys = map-onto f xs (x ∷ ys)
+
+  pub map-reverse : (f : A → B) (xs : List A) → map f (reverse xs) ≡ reverse (map f xs)
+  map-reverse f xs = map-onto f xs []
+
+  -- a map's element, whatever the default
+  pub map-at : (f : A → B) (i : ℕ) (xs : List A) (a : A) (b : B) → i < length xs → getD (map f xs) i b ≡ f (getD xs i a)
+  map-at f i [] a b h = absurd (omega arith)
+  map-at f zero (x ∷ xs) a b h = refl
+  map-at f (suc i) (x ∷ xs) a b h = map-at f i xs a b (omega arith)
+
+-- one map after another
+pub maps-after : {A B C : Type 0} (f : A → B) (g : B → C) (xs : List A) → map g (map f xs) ≡ map (λ x. g (f x)) xs
+maps-after f g [] = refl
+maps-after f g (x ∷ xs) = ap (λ (r : List _). g (f x) ∷ r) (maps-after f g xs)
