@@ -1,0 +1,98 @@
+-- Laws of lists made of blocks of equal length: how long they are, what block i is, what the whole is when block i is replaced.
+use Prim.Native.Nat.{ℕ, zero, suc, _+_, _*_, _≤_, _<_}
+use mathlib.Core.Path.{_≡_, refl, sym, _∙_, ap}
+use mathlib.Core.List.{List, [], _∷_, _++_, map, append-assoc, append-nil}
+use native.Mathlib.Nat.{suc-mul, zero-mul, add-comm, mul-le-mul-right}
+use native.Mathlib.Decide.{ℕ-discrete}
+use native.Mathlib.Omega.{arith}
+use lib.ListN.{length, take, drop, getD, set, length-append, length-map, List·getD-append}
+use lib.Seq.{take-at, drop-at, take-append-add, drop-append-add, getD-at}
+use borrow.Rule.Slice.PartMut.{midOf, putMid}
+use Rattle.lists.specs.Lists.{All, joined, upTo}
+use Rattle.lists.proofs.All.{map-at}
+
+-- block p of n blocks ends within them
+pub block-in : (p n size : ℕ) → p < n → p * size + size ≤ n * size
+block-in p n size l = omega (arith, suc-mul p size, mul-le-mul-right {m = suc p} {n = n} size l)
+
+-- the numbers below n, in their order
+pub length-upTo : (n : ℕ) → length (upTo n) ≡ n
+unfolding upTo
+length-upTo zero = refl
+length-upTo (suc n) = length-append (upTo n) (n ∷ []) ∙ omega (arith, length-upTo n)
+
+pub upTo-at : (n i d : ℕ) → i < n → getD (upTo n) i d ≡ i
+unfolding upTo
+upTo-at zero i d h = absurd (omega arith)
+upTo-at (suc n) i d h = go (ℕ-discrete i n) (upTo-at n i d)
+  where
+    go : Dec (i ≡ n) → (i < n → getD (upTo n) i d ≡ i) → getD (upTo n ++ (n ∷ [])) i d ≡ i
+    go (yes e) earlier = rw e (getD-at (upTo n) n [] d n (length-upTo n))
+    go (no m) earlier = List·getD-append (upTo n) (n ∷ []) d i (rw (length-upTo n) (omega arith)) ∙ earlier (omega arith)
+
+module _ {A : Type 0} where
+  -- every block has so many elements
+  abbrev pub Each : ℕ → List (List A) → Type 0
+  Each size bs = All (λ b. length b ≡ size) bs
+
+  pub length-joined : (size : ℕ) (bs : List (List A)) → Each size bs → length (joined bs) ≡ length bs * size
+  unfolding All joined
+  length-joined size [] e = sym (zero-mul size)
+  length-joined size (b ∷ bs) e = length-append b (joined bs) ∙ omega (arith, e .0, length-joined size bs (e .1), suc-mul (length bs) size)
+
+  -- the way past the first block
+  past : (size i : ℕ) (b l : List A) → length b ≡ size → drop (suc i * size) (b ++ l) ≡ drop (i * size) l
+  past size i b l h = rw (suc-mul, add-comm (i * size) size, ← h) (drop-append-add b l (i * length b))
+
+  upto : (size i : ℕ) (b l : List A) → length b ≡ size → take (suc i * size) (b ++ l) ≡ b ++ take (i * size) l
+  upto size i b l h = rw (suc-mul, add-comm (i * size) size, ← h) (take-append-add b l (i * length b))
+
+  -- block i, as it is lent; an offset and a count may be computed otherwise
+  block-mid : (size i : ℕ) (bs : List (List A)) (rest : List A) → Each size bs → i < length bs
+      → midOf (i * size) size (joined bs ++ rest) ≡ getD bs i []
+  unfolding All joined
+  block-mid size i [] rest e h = absurd (omega arith)
+  block-mid size zero (b ∷ bs) rest e h = rw (zero-mul, append-assoc) (take-at b (joined bs ++ rest) size (e .0))
+  block-mid size (suc i) (b ∷ bs) rest e h = rw (append-assoc, past size i b (joined bs ++ rest) (e .0)) (block-mid size i bs rest (e .1) (omega arith))
+
+  pub block-lent : (at count size i : ℕ) (bs : List (List A)) (rest : List A) → at ≡ i * size → count ≡ size → Each size bs → i < length bs
+      → midOf at count (joined bs ++ rest) ≡ getD bs i []
+  block-lent at count size i bs rest a c e h = rw (a, c) (block-mid size i bs rest e h)
+
+  -- block i, as it comes back
+  block-put : (size i : ℕ) (bs : List (List A)) (rest b : List A) → Each size bs → i < length bs
+      → putMid (i * size) size (joined bs ++ rest) b ≡ joined (set bs i b) ++ rest
+  unfolding All joined
+  block-put size i [] rest b e h = absurd (omega arith)
+  block-put size zero (x ∷ bs) rest b e h = rw (zero-mul, append-assoc, append-assoc, drop-at x (joined bs ++ rest) size (e .0)) refl
+  block-put size (suc i) (x ∷ bs) rest b e h =
+      rw (append-assoc, past size i x (joined bs ++ rest) (e .0), upto size i x (joined bs ++ rest) (e .0), append-assoc, append-assoc)
+      (ap (λ (r : List A). x ++ r) (block-put size i bs rest b (e .1) (omega arith)))
+
+  pub block-back : (at count size i : ℕ) (bs : List (List A)) (rest b : List A) → at ≡ i * size → count ≡ size → Each size bs → i < length bs
+      → putMid at count (joined bs ++ rest) b ≡ joined (set bs i b) ++ rest
+  block-back at count size i bs rest b a c e h = rw (a, c) (block-put size i bs rest b e h)
+
+  -- the first n blocks of a list, each of so many elements
+  unfoldable pub chop : (n size : ℕ) → List A → List (List A)
+  chop zero size l = []
+  chop (suc n) size l = take size l ∷ chop n size (drop size l)
+
+  pub chop-joined : (size : ℕ) (bs : List (List A)) (rest : List A) → Each size bs → chop (length bs) size (joined bs ++ rest) ≡ bs
+  unfolding All joined chop
+  chop-joined size [] rest e = refl
+  chop-joined size (b ∷ bs) rest e =
+      rw (append-assoc b (joined bs) rest, take-at b (joined bs ++ rest) size (e .0), drop-at b (joined bs ++ rest) size (e .0))
+      (ap (λ (r : List (List A)). b ∷ r) (chop-joined size bs rest (e .1)))
+
+  -- the same where the number of blocks is computed otherwise
+  pub chop-is : (n size : ℕ) (bs : List (List A)) (rest : List A) → length bs ≡ n → Each size bs → chop n size (joined bs ++ rest) ≡ bs
+  chop-is n size bs rest c e = rw (← c) (chop-joined size bs rest e)
+
+-- a block for each number below n
+module _ {A : Type 0} (f : ℕ → List A) where
+  pub length-numbered : (n : ℕ) → length (map f (upTo n)) ≡ n
+  length-numbered n = length-map (upTo n) f ∙ length-upTo n
+
+  pub numbered-at : (n i : ℕ) → i < n → getD (map f (upTo n)) i [] ≡ f i
+  numbered-at n i h = map-at f i (upTo n) 0 [] (rw (length-upTo n) h) ∙ ap f (upTo-at n i 0 h)
