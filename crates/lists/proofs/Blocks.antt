@@ -78,6 +78,11 @@ module _ {A : Type 0} where
   chop zero size l = []
   chop (suc n) size l = take size l ∷ chop n size (drop size l)
 
+  pub length-chop : (n size : ℕ) (l : List A) → length (chop n size l) ≡ n
+  unfolding chop
+  length-chop zero size l = refl
+  length-chop (suc n) size l = ap suc (length-chop n size (drop size l))
+
   pub chop-joined : (size : ℕ) (bs : List (List A)) (rest : List A) → Each size bs → chop (length bs) size (joined bs ++ rest) ≡ bs
   unfolding All joined chop
   chop-joined size [] rest e = refl

@@ -1,0 +1,126 @@
+-- Reading slots off words: what is read off an image are the slots of its state.
+use Prim.Native.Nat.{ℕ, zero, suc, _+_, _*_, _≤_, _<_}
+use mathlib.Core.Path.{_≡_, refl, sym, _∙_, ap}
+use mathlib.Core.Bool.{cond}
+use mathlib.Core.List.{List, [], _∷_, _++_, map, append-assoc, append-nil}
+use native.Mathlib.Omega.{arith}
+use lib.Dec.{eqb}
+use lib.ListN.{length, take, drop, getD, List·getD-eq-default}
+use lib.Seq.{drop-at, take-append-le, take-nil}
+use Rattle.lists.specs.Lists.{All, upTo, joined}
+use Rattle.lists.specs.Fill.{fillTo}
+use Rattle.lists.proofs.Tests.{eqb-of, eqb-apart, cond-true, cond-false}
+use Rattle.lists.proofs.All.{all-so, map-same, maps-after}
+use Rattle.lists.proofs.Fill.{length-fill, take-fill, all-fill}
+use Rattle.lists.proofs.Blocks.{chop, chop-is, length-chop, length-numbered, numbered-at}
+use Rattle.term.specs.Module.{longestModule}
+use Rattle.rules.specs.State.{Sizes, State}
+use Rattle.store.specs.Layout.{headWords, blocksFrom, slotHead, namesRoom, slotSize, slotCount, blockSize, needed, kindFree, Slot, freeSlot, slotWords, slotsAt, block, head, image}
+use Rattle.store.proofs.Lengths.{length-slot, each-slot, slots-in, blockAt, each-block, length-head, length-image}
+
+-- ---- one slot
+
+unfoldable pub readSlot : Sizes → List ℕ → Slot
+readSlot sizes l = record {
+  kind = getD l 0 0;
+  number = getD l 2 0;
+  control = take (getD l 1 0) (drop slotHead l);
+  names = take (getD l 4 0) (drop (sizes .words) (drop slotHead l));
+}
+
+-- what a slot has room for
+pub record FitsSlot (sizes : Sizes) (x : Slot) : Type 0 where
+  pub control-fits : length (x .control) ≤ sizes .words
+  pub names-fit : length (x .names) ≤ namesRoom sizes
+
+pub read-slot : (sizes : Sizes) (x : Slot) → FitsSlot sizes x → readSlot sizes (slotWords sizes x) ≡ x
+unfolding readSlot slotWords
+read-slot sizes x f =
+    let control = fillTo (sizes .words) 0 (x .control) in
+    let names = fillTo (namesRoom sizes) 0 (x .names) in
+    let full : length control ≡ sizes .words = length-fill (sizes .words) 0 (x .control) in
+    let c : take (length (x .control)) (control ++ names) ≡ x .control =
+      take-append-le (length (x .control)) control names (omega (arith, full, f .control-fits)) ∙ take-fill (sizes .words) 0 (x .control) (f .control-fits) in
+    let n : take (length (x .names)) (drop (sizes .words) (control ++ names)) ≡ x .names =
+      ap (take (length (x .names))) (drop-at control names (sizes .words) full) ∙ take-fill (namesRoom sizes) 0 (x .names) (f .names-fit) in
+    λ i. record { kind = x .kind; number = x .number; control = c i; names = n i }
+
+-- ---- the slots of a block: those before the first free one
+
+unfoldable pub leading : List Slot → List Slot
+leading [] = []
+leading (x ∷ xs) = cond (eqb (x .kind) kindFree) [] (x ∷ leading xs)
+
+abbrev pub Used : Slot → Type 0
+Used x = ¬ (x .kind ≡ kindFree)
+
+pub leading-fill : (n : ℕ) (xs : List Slot) → length xs ≤ n → All Used xs → leading (fillTo n freeSlot xs) ≡ xs
+unfolding leading fillTo All
+leading-fill zero [] h a = refl
+leading-fill zero (x ∷ xs) h a = absurd (omega arith)
+leading-fill (suc n) [] h a = refl
+leading-fill (suc n) (x ∷ xs) h a = cond-false [] (x ∷ leading (fillTo n freeSlot xs)) (eqb-apart (x .kind) kindFree (a .0)) ∙ ap (λ (r : List Slot). x ∷ r) (leading-fill n xs (omega arith) (a .1))
+
+unfoldable pub readBlock : Sizes → List ℕ → List Slot
+readBlock sizes l = leading (map (readSlot sizes) (chop (slotCount sizes) (slotSize sizes) l))
+
+pub read-block : (sizes : Sizes) (xs : List Slot) (rest : List ℕ) → length xs ≤ slotCount sizes → All Used xs → All (FitsSlot sizes) xs → readBlock sizes (block sizes xs ++ rest) ≡ xs
+unfolding readBlock block
+read-block sizes xs rest few used fit =
+    let slots = fillTo (slotCount sizes) freeSlot xs in
+    let free : FitsSlot sizes freeSlot = record { control-fits = omega arith; names-fit = omega arith } in
+    ap (λ (bs : List (List ℕ)). leading (map (readSlot sizes) bs)) (chop-is (slotCount sizes) (slotSize sizes) (map (slotWords sizes) slots) rest (slots-in sizes xs) (each-slot sizes slots))
+    ∙ ap leading (maps-after (slotWords sizes) (readSlot sizes) slots ∙ map-same (λ x. readSlot sizes (slotWords sizes x)) slots (all-so (read-slot sizes) slots (all-fill (FitsSlot sizes) (slotCount sizes) freeSlot xs free fit)))
+    ∙ leading-fill (slotCount sizes) xs few used
+
+-- nothing is read off no words
+pub read-nothing : (sizes : Sizes) → readBlock sizes [] ≡ []
+unfolding readBlock readSlot chop leading
+read-nothing sizes = cond-true [] (readSlot sizes (take (slotSize sizes) []) ∷ leading (map (readSlot sizes) (chop (sizes .entries) (slotSize sizes) (drop (slotSize sizes) [])))) (eqb-of (getD (take (slotSize sizes) []) 0 0) kindFree (ap (λ (l : List ℕ). getD l 0 0) (take-nil (slotSize sizes))))
+
+-- ---- the slots of a place; past the last place there are none
+
+unfoldable pub readSizes : List ℕ → Sizes
+readSizes l = record { places = getD l 0 0; entries = getD l 1 0; words = getD l 2 0 }
+
+unfoldable pub readModule : List ℕ → List ℕ
+readModule l = take (getD l 3 0) (drop headWords l)
+
+unfoldable pub readPlace : Sizes → List ℕ → ℕ → List Slot
+readPlace sizes l p = readBlock sizes (getD (chop (sizes .places) (blockSize sizes) (drop blocksFrom l)) p [])
+
+-- ---- what is read off an image
+
+module _ (s : State) (rest : List ℕ) where
+  blocks : List (List ℕ)
+  blocks = map (blockAt s) (upTo (s .sizes .places))
+
+  past-head : drop blocksFrom (image s ++ rest) ≡ joined blocks ++ rest
+  unfolding image blocks
+  past-head = ap (drop blocksFrom) (append-assoc (head s) (joined blocks) rest) ∙ drop-at (head s) (joined blocks ++ rest) blocksFrom (length-head s)
+
+  pub read-sizes : readSizes (image s ++ rest) ≡ s .sizes
+  unfolding readSizes image head
+  read-sizes = refl
+
+  pub read-module : length (s .module′) ≤ longestModule → readModule (image s ++ rest) ≡ s .module′
+  unfolding readModule image head
+  read-module h =
+      let filled = fillTo longestModule 0 (s .module′) in
+      ap (take (length (s .module′))) (append-assoc filled (joined (map (blockAt s) (upTo (s .sizes .places)))) rest)
+      ∙ take-append-le (length (s .module′)) filled (joined (map (blockAt s) (upTo (s .sizes .places))) ++ rest) (omega (arith, length-fill longestModule 0 (s .module′)))
+      ∙ take-fill longestModule 0 (s .module′) h
+
+  pub read-place : (p : ℕ) → p < s .sizes .places → length (slotsAt s p) ≤ slotCount (s .sizes) → All Used (slotsAt s p) → All (FitsSlot (s .sizes)) (slotsAt s p)
+      → readPlace (s .sizes) (image s ++ rest) p ≡ slotsAt s p
+  unfolding readPlace blocks
+  read-place p h few used fit =
+      ap (λ (l : List ℕ). readBlock (s .sizes) (getD (chop (s .sizes .places) (blockSize (s .sizes)) l) p [])) past-head
+      ∙ ap (λ (bs : List (List ℕ)). readBlock (s .sizes) (getD bs p [])) (chop-is (s .sizes .places) (blockSize (s .sizes)) blocks rest (length-numbered (blockAt s) (s .sizes .places)) (each-block s (upTo (s .sizes .places))))
+      ∙ ap (readBlock (s .sizes)) (numbered-at (blockAt s) (s .sizes .places) p h ∙ sym (append-nil (blockAt s p)))
+      ∙ read-block (s .sizes) (slotsAt s p) [] few used fit
+
+  pub read-past : (p : ℕ) → s .sizes .places ≤ p → readPlace (s .sizes) (image s ++ rest) p ≡ []
+  unfolding readPlace
+  read-past p h = ap (readBlock (s .sizes)) (List·getD-eq-default (chop (s .sizes .places) (blockSize (s .sizes)) (drop blocksFrom (image s ++ rest))) [] (omega (arith, length-chop (s .sizes .places) (blockSize (s .sizes)) (drop blocksFrom (image s ++ rest)))))
+      ∙ read-nothing (s .sizes)
