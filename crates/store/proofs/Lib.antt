@@ -1,3 +1,4 @@
 pub mod Lengths
 pub mod Reading
 pub mod Restoring
+pub mod Decoding
