@@ -68,6 +68,11 @@ module _ {A : Type 0} where
   all-so f [] a = tt
   all-so f (x ∷ xs) a = (f x (a .0), all-so f xs (a .1))
 
+  pub all-both : {P Q R : A → Type 0} → ((x : A) → P x → Q x → R x) → (xs : List A) → All P xs → All Q xs → All R xs
+  unfolding All
+  all-both f [] a b = tt
+  all-both f (x ∷ xs) a b = (f x (a .0) (b .0), all-both f xs (a .1) (b .1))
+
   pub all-any : {P : A → Type 0} → ((x : A) → P x) → (xs : List A) → All P xs
   unfolding All
   all-any f [] = tt

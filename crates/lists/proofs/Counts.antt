@@ -2,13 +2,13 @@
 use Prim.Native.Nat.{ℕ, zero, suc, _+_, _≤_, _<_}
 use mathlib.Core.Path.{_≡_, refl, sym, _∙_, ap}
 use mathlib.Core.Logic.{_⊎_, inl, inr}
-use mathlib.Core.Bool.{Bool, true, false, cond}
+use mathlib.Core.Bool.{Bool, true, false}
 use mathlib.Core.List.{List, [], _∷_, _++_}
 use native.Mathlib.Decide.{ℕ-discrete}
 use native.Mathlib.Omega.{arith}
 use lib.Dec.{eqb}
 use lib.ListN.{length}
-use Rattle.lists.proofs.Tests.{true-or-false, eqb-true, eqb-same, eqb-apart, eqb-false}
+use Rattle.lists.proofs.Tests.{true-or-false, eqb-same, eqb-apart}
 
 -- one more where the test holds
 unfoldable pub oneIf : Bool → ℕ → ℕ
@@ -33,6 +33,11 @@ occurs-append c (x ∷ xs) ys = ap (oneIf (eqb c x)) (occurs-append c xs ys) ∙
 pub occurs-head : (x : ℕ) (xs : List ℕ) → occurs x (x ∷ xs) ≡ suc (occurs x xs)
 unfolding occurs oneIf
 occurs-head x xs = rw (eqb-same x) refl
+
+-- another does not count
+pub occurs-other : (c x : ℕ) (xs : List ℕ) → ¬ (c ≡ x) → occurs c (x ∷ xs) ≡ occurs c xs
+unfolding occurs oneIf
+occurs-other c x xs n = rw (eqb-apart c x n) refl
 
 -- an element in the middle counts as it does in front
 pub occurs-middle : (c x : ℕ) (xs ys : List ℕ) → occurs c (xs ++ (x ∷ ys)) ≡ occurs c (x ∷ (xs ++ ys))
