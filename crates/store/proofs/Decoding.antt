@@ -80,9 +80,10 @@ module _ (s : State) (x : Storable s) where
       go : (o : Option Process) (queue : List Message) → ((process : Process) → o ≡ some process → length (process .control) ≤ s .sizes .words)
           → KeptQueue s queue → All (KeptEntry s) (historyOf o) → All (FitsSlot (s .sizes)) (placeSlots o queue)
       go none queue c q a = tt
-      go (some process) queue c q a =
-          (record { control-fits = c process refl; names-fit = omega (arith, length-map queue nameWord, q .fits) }
-          , all-map (FitsSlot (s .sizes)) entrySlot (reverse (process .history)) (all-reverse (λ e. FitsSlot (s .sizes) (entrySlot e)) (process .history) (all-so entry-fits (process .history) a)))
+      go (some process) queue c q a = (
+        record { control-fits = c process refl; names-fit = omega (arith, length-map queue nameWord, q .fits) },
+        all-map (FitsSlot (s .sizes)) entrySlot (reverse (process .history)) (all-reverse (λ e. FitsSlot (s .sizes) (entrySlot e)) (process .history) (all-so entry-fits (process .history) a)),
+      )
 
   places-read : (rest : List ℕ) → readPlace (s .sizes) (image s ++ rest) ≡ slotsAt s
   unfolding slotsAt placeSlots
@@ -109,8 +110,9 @@ module _ (s : State) (x : Storable s) where
 -- an image stands for one such state, and what follows it is its own
 pub one-storable : (s s′ : State) (rest rest′ : List ℕ) → Storable s → Storable s′ → image s ++ rest ≡ image s′ ++ rest′ → (s ≡ s′) × (rest ≡ rest′)
 one-storable s s′ rest rest′ x x′ e =
-    let same : s ≡ s′ = sym (decode-image s x rest) ∙ ap decode e ∙ decode-image s′ x′ rest′ in
-    (same
-    , sym (drop-at (image s) rest (needed (s .sizes)) (length-image s))
-    ∙ (λ i. drop (needed (same i .sizes)) (e i))
-    ∙ drop-at (image s′) rest′ (needed (s′ .sizes)) (length-image s′))
+    let same : s ≡ s′ = sym (decode-image s x rest) ∙ ap decode e ∙ decode-image s′ x′ rest′ in (
+      same,
+      sym (drop-at (image s) rest (needed (s .sizes)) (length-image s))
+          ∙ (λ i. drop (needed (same i .sizes)) (e i))
+          ∙ drop-at (image s′) rest′ (needed (s′ .sizes)) (length-image s′),
+    )

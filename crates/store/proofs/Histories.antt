@@ -28,9 +28,10 @@ entry-below (x ∷ h) i {e} stands = go (true-or-false (eqb (length h) i)) (entr
 pub all-entries : {P : Entry → Type 0} (h : List Entry) → ((i : ℕ) (e : Entry) → entryAt h i ≡ some e → P e) → All P h
 unfolding entryAt All
 all-entries [] f = tt
-all-entries (x ∷ h) f =
-    (f (length h) x (cond-true (some x) (entryAt h (length h)) (eqb-same (length h)))
-    , all-entries h (λ i e s. f i e (cond-false (some x) (entryAt h i) (eqb-apart (length h) i (λ z. let b = entry-below h i s in omega arith)) ∙ s)))
+all-entries (x ∷ h) f = (
+  f (length h) x (cond-true (some x) (entryAt h (length h)) (eqb-same (length h))),
+  all-entries h (λ i e s. f i e (cond-false (some x) (entryAt h i) (eqb-apart (length h) i (λ z. let b = entry-below h i s in omega arith)) ∙ s)),
+)
 
 -- ---- sends
 

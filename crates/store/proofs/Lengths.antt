@@ -60,9 +60,9 @@ unfolding mostNeeded
 needed-most sizes =
     let room = sizes .words + sizes .places * sizes .entries in
     let one : blockSize sizes ≤ (sizes .entries + 2) * (room + 8) =
-      mul-le-mul {n₁ = slotCount sizes} {m₁ = slotSize sizes} {n₂ = sizes .entries + 2} {m₂ = room + 8} (omega arith) (omega arith) in
+    mul-le-mul {n₁ = slotCount sizes} {m₁ = slotSize sizes} {n₂ = sizes .entries + 2} {m₂ = room + 8} (omega arith) (omega arith) in
     let all : sizes .places * blockSize sizes ≤ sizes .places * ((sizes .entries + 2) * (room + 8)) =
-      mul-le-mul {n₁ = sizes .places} {m₁ = blockSize sizes} {n₂ = sizes .places} {m₂ = (sizes .entries + 2) * (room + 8)} (omega arith) one in
+    mul-le-mul {n₁ = sizes .places} {m₁ = blockSize sizes} {n₂ = sizes .places} {m₂ = (sizes .entries + 2) * (room + 8)} (omega arith) one in
     omega arith
 
 pub bench-fits : needed benchSizes ≤ benchStore

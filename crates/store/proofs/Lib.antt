@@ -5,3 +5,5 @@ pub mod Decoding
 pub mod Histories
 pub mod Names
 pub mod SoundStates
+pub mod ImageWords
+pub mod Laws

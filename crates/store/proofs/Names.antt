@@ -48,8 +48,8 @@ module _ (P H : ℕ) where
   none-so m [] n a e = refl
   none-so m (x ∷ ms) n a e =
       let apart : ¬ (nameNumber H m ≡ nameNumber H x) = λ same.
-        let r = number-of-one H (m .sender) (m .count) (x .sender) (x .count) (n .count-below) (a .0 .count-below) same in
-        true-not-false (and-of (eqb-of (x .sender) (m .sender) (sym (r .0))) (eqb-of (x .count) (m .count) (sym (r .1)))) (or-false-left (isNamed (m .sender) (m .count) x) (any (isNamed (m .sender) (m .count)) ms) e) in
+      let r = number-of-one H (m .sender) (m .count) (x .sender) (x .count) (n .count-below) (a .0 .count-below) same in
+      true-not-false (and-of (eqb-of (x .sender) (m .sender) (sym (r .0))) (eqb-of (x .count) (m .count) (sym (r .1)))) (or-false-left (isNamed (m .sender) (m .count) x) (any (isNamed (m .sender) (m .count)) ms) e) in
       occurs-other (nameNumber H m) (nameNumber H x) (nameNumbers H ms) apart
       ∙ none-so m ms n (a .1) (or-false-right (isNamed (m .sender) (m .count) x) (any (isNamed (m .sender) (m .count)) ms) e)
 

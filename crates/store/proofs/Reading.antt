@@ -40,9 +40,9 @@ read-slot sizes x f =
     let names = fillTo (namesRoom sizes) 0 (x .names) in
     let full : length control ≡ sizes .words = length-fill (sizes .words) 0 (x .control) in
     let c : take (length (x .control)) (control ++ names) ≡ x .control =
-      take-append-le (length (x .control)) control names (omega (arith, full, f .control-fits)) ∙ take-fill (sizes .words) 0 (x .control) (f .control-fits) in
+    take-append-le (length (x .control)) control names (omega (arith, full, f .control-fits)) ∙ take-fill (sizes .words) 0 (x .control) (f .control-fits) in
     let n : take (length (x .names)) (drop (sizes .words) (control ++ names)) ≡ x .names =
-      ap (take (length (x .names))) (drop-at control names (sizes .words) full) ∙ take-fill (namesRoom sizes) 0 (x .names) (f .names-fit) in
+    ap (take (length (x .names))) (drop-at control names (sizes .words) full) ∙ take-fill (namesRoom sizes) 0 (x .names) (f .names-fit) in
     λ i. record { kind = x .kind; number = x .number; control = c i; names = n i }
 
 -- ---- the slots of a block: those before the first free one

@@ -140,8 +140,8 @@ module _ (s : State) (kept : (p : ℕ) → All (KeptEntry s) (historyAt s p)) wh
       let sender-read : nameWord m / nameBase ≡ m .sender = omega arith in
       let count-read : nameWord m % nameBase ≡ m .count = omega arith in
       let value-read : valueOf (sent (readSends (s .module′) (slotsAt s (nameWord m / nameBase))) (nameWord m % nameBase)) ≡ m .value =
-        (λ i. valueOf (sent (readSends (s .module′) (slotsAt s (sender-read i))) (count-read i)))
-        ∙ ap valueOf (sent-read (m .sender) (m .count) ∙ x .said) in
+      (λ i. valueOf (sent (readSends (s .module′) (slotsAt s (sender-read i))) (count-read i)))
+      ∙ ap valueOf (sent-read (m .sender) (m .count) ∙ x .said) in
       λ i. record { sender = sender-read i; count = count-read i; value = value-read i }
 
   queue-read : (queue : List Message) → All (Kept s) queue → map (readMessage (s .module′) (slotsAt s)) (map nameWord queue) ≡ queue

@@ -136,8 +136,17 @@ module _ (s : State) (sound : Sound s) where
   -- the queue before a rec and what was taken before it hold nothing but what the queue after it and what was taken hold
   once-before : (before : List Message) (m : Message) (after others older : List Message) → Once (((before ++ after) ++ others) ++ (m ∷ older)) → Once ((before ++ (m ∷ after)) ++ older)
   once-before before m after others older once c =
-      omega (arith, once c, often-append c ((before ++ after) ++ others) (m ∷ older), often-append c (before ++ after) others, often-append c before after
-      , often-append c (m ∷ []) older, often-append c (before ++ (m ∷ after)) older, often-append c before (m ∷ after), often-append c (m ∷ []) after)
+      omega (
+        arith,
+        once c,
+        often-append c ((before ++ after) ++ others) (m ∷ older),
+        often-append c (before ++ after) others,
+        often-append c before after,
+        often-append c (m ∷ []) older,
+        often-append c (before ++ (m ∷ after)) older,
+        often-append c before (m ∷ after),
+        often-append c (m ∷ []) after,
+      )
 
   all-before : (P : Message → Type 0) (before : List Message) (m : Message) (after others older : List Message) → All P (((before ++ after) ++ others) ++ (m ∷ older)) → All P ((before ++ (m ∷ after)) ++ older)
   all-before P before m after others older a =
