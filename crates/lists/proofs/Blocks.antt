@@ -1,12 +1,12 @@
 -- Laws of lists made of blocks of equal length: how long they are, what block i is, what the whole is when block i is replaced.
-use Prim.Native.Nat.{ℕ, zero, suc, _+_, _*_, _≤_, _<_}
-use mathlib.Core.Path.{_≡_, refl, sym, _∙_, ap}
+use Prim.Native.Nat.{ℕ, zero, suc, _+_, _-_, _*_, _≤_, _<_}
+use mathlib.Core.Path.{_≡_, refl, sym, _∙_, ap, ap₂}
 use mathlib.Core.List.{List, [], _∷_, _++_, map, append-assoc, append-nil}
 use native.Mathlib.Nat.{suc-mul, zero-mul, add-comm, mul-le-mul-right}
 use native.Mathlib.Decide.{ℕ-discrete}
 use native.Mathlib.Omega.{arith}
-use lib.ListN.{length, take, drop, getD, set, length-append, length-map, List·getD-append}
-use lib.Seq.{take-at, drop-at, take-append-add, drop-append-add, getD-at}
+use lib.ListN.{length, take, drop, getD, set, length-append, length-map, length-set, take-append-drop, List·getD-append}
+use lib.Seq.{take-at, drop-at, take-append-add, drop-append-add, getD-at, getD-set-same, getD-set-other, ext-getD, take-nil, take-take, take-add, drop-drop}
 use borrow.Rule.Slice.PartMut.{midOf, putMid}
 use Rattle.lists.specs.Lists.{All, joined, upTo}
 use Rattle.lists.proofs.All.{map-at}
@@ -101,3 +101,56 @@ module _ {A : Type 0} (f : ℕ → List A) where
 
   pub numbered-at : (n i : ℕ) → i < n → getD (map f (upTo n)) i [] ≡ f i
   numbered-at n i h = map-at f i (upTo n) 0 [] (rw (length-upTo n) h) ∙ ap f (upTo-at n i 0 h)
+
+  -- of blocks made by two functions that agree but at i, the one is the other with block i replaced
+  pub numbered-set : (g : ℕ → List A) (n i : ℕ) → ((j : ℕ) → ¬ (i ≡ j) → f j ≡ g j) → set (map f (upTo n)) i (g i) ≡ map g (upTo n)
+  numbered-set g n i agree = ext-getD [] (set (map f (upTo n)) i (g i)) (map g (upTo n)) (length-set (map f (upTo n)) i (g i) ∙ length-map (upTo n) f ∙ sym (length-map (upTo n) g)) (λ j h. at j (omega (arith, length-set (map f (upTo n)) i (g i), length-numbered n)) (ℕ-discrete i j))
+    where
+      at : (j : ℕ) → j < n → Dec (i ≡ j) → getD (set (map f (upTo n)) i (g i)) j [] ≡ getD (map g (upTo n)) j []
+      at j h (yes e) =
+          ap (λ (x : ℕ). getD (set (map f (upTo n)) i (g i)) x []) (sym e)
+          ∙ getD-set-same (map f (upTo n)) i (g i) [] (omega (arith, length-numbered n))
+          ∙ ap g e ∙ sym (map-at g j (upTo n) 0 [] (omega (arith, length-upTo n)) ∙ ap g (upTo-at n j 0 h))
+      at j h (no m) =
+          getD-set-other (map f (upTo n)) i j (g i) [] (λ e. m (sym e))
+          ∙ numbered-at n j h ∙ agree j m ∙ sym (map-at g j (upTo n) 0 [] (omega (arith, length-upTo n)) ∙ ap g (upTo-at n j 0 h))
+
+-- ---- parts of parts
+
+module _ {A : Type 0} where
+  -- what is left of the first b + c elements behind b of them
+  drop-take : (b c n : ℕ) (l : List A) → n ≡ b + c → drop b (take n l) ≡ take c (drop b l)
+  drop-take zero c n l e = let same : n ≡ c = omega arith in ap (λ (x : ℕ). take x l) same
+  drop-take (suc b) c zero l e = absurd (omega arith)
+  drop-take (suc b) c (suc n) [] e = sym (take-nil c)
+  drop-take (suc b) c (suc n) (x ∷ l) e = drop-take b c n l (omega arith)
+
+  -- the part of a part is a part
+  pub mid-mid : (a n b k : ℕ) (l : List A) → b + k ≤ n → midOf b k (midOf a n l) ≡ midOf (a + b) k l
+  mid-mid a n b k l h =
+      ap (take k) (drop-take b (n - b) n (drop a l) (omega arith))
+      ∙ take-take k (n - b) (drop b (drop a l)) (omega arith)
+      ∙ ap (take k) (drop-drop b a l)
+
+  -- a part put into a part
+  pub put-put : (a n b k : ℕ) (l y : List A) → b + k ≤ n → a + n ≤ length l → putMid a n l (putMid b k (midOf a n l) y) ≡ putMid (a + b) k l y
+  put-put a n b k l y h g =
+      let m = drop a l in
+      let c = n - (b + k) in
+      let whole : n ≡ b + k + c = omega arith in
+      let left : drop k (drop b (take n m)) ++ drop n m ≡ drop k (drop b m) =
+        ap₂ (λ (x z : List A). x ++ z) (drop-drop k b (take n m) ∙ drop-take (b + k) c n m whole) (ap (λ (x : ℕ). drop x m) whole ∙ sym (drop-drop c (b + k) m))
+        ∙ take-append-drop c (drop (b + k) m) ∙ sym (drop-drop k b m) in
+      ap (λ (x : List A). take a l ++ x)
+        (ap (λ (x : List A). (x ++ (y ++ drop k (drop b (take n m)))) ++ drop n m) (take-take b n m (omega arith))
+        ∙ append-assoc (take b m) (y ++ drop k (drop b (take n m))) (drop n m)
+        ∙ ap (λ (x : List A). take b m ++ x) (append-assoc y (drop k (drop b (take n m))) (drop n m) ∙ ap (λ (x : List A). y ++ x) left))
+      ∙ sym (append-assoc (take a l) (take b m) (y ++ drop k (drop b m)))
+      ∙ ap₂ (λ (x z : List A). x ++ (y ++ drop k z)) (sym (take-add a b l)) (drop-drop b a l)
+
+  -- a part behind a head
+  pub mid-behind : (a k n : ℕ) (front l : List A) → length front ≡ n → midOf (n + a) k (front ++ l) ≡ midOf a k l
+  mid-behind a k n front l e = rw (← e, drop-append-add)
+
+  pub put-behind : (a k n : ℕ) (front l b : List A) → length front ≡ n → putMid (n + a) k (front ++ l) b ≡ front ++ putMid a k l b
+  put-behind a k n front l b e = rw (← e, drop-append-add, take-append-add, append-assoc)
