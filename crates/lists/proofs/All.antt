@@ -3,7 +3,7 @@ use Prim.Native.Nat.{ℕ, zero, suc, _<_}
 use mathlib.Core.Path.{_≡_, refl, sym, _∙_, ap}
 use mathlib.Core.List.{List, [], _∷_, _++_, map, reverse, reverseAux}
 use native.Mathlib.Omega.{arith}
-use lib.ListN.{length, getD}
+use lib.ListN.{length, getD, set}
 use Rattle.lists.specs.Lists.{All, joined, upTo}
 
 module _ {A : Type 0} (P : A → Type 0) where
@@ -108,6 +108,11 @@ module _ {A B : Type 0} where
   map-at f i [] a b h = absurd (omega arith)
   map-at f zero (x ∷ xs) a b h = refl
   map-at f (suc i) (x ∷ xs) a b h = map-at f i xs a b (omega arith)
+
+  pub map-set : (f : A → B) (i : ℕ) (xs : List A) (y : A) → set (map f xs) i (f y) ≡ map f (set xs i y)
+  map-set f i [] y = refl
+  map-set f zero (x ∷ xs) y = refl
+  map-set f (suc i) (x ∷ xs) y = ap (λ (r : List B). f x ∷ r) (map-set f i xs y)
 
 -- one map after another
 pub maps-after : {A B C : Type 0} (f : A → B) (g : B → C) (xs : List A) → map g (map f xs) ≡ map (λ x. g (f x)) xs

@@ -2,11 +2,11 @@
 use Prim.Native.Nat.{ℕ, zero, suc, _+_, _-_, _*_, _≤_, _<_}
 use mathlib.Core.Path.{_≡_, refl, sym, _∙_, ap, ap₂}
 use mathlib.Core.List.{List, [], _∷_, _++_, map, append-assoc, append-nil}
-use native.Mathlib.Nat.{suc-mul, zero-mul, add-comm, mul-le-mul-right}
+use native.Mathlib.Nat.{suc-mul, zero-mul, zero-add, add-comm, mul-le-mul-right}
 use native.Mathlib.Decide.{ℕ-discrete}
 use native.Mathlib.Omega.{arith}
-use lib.ListN.{length, take, drop, getD, set, length-append, length-map, length-set, take-append-drop, List·getD-append}
-use lib.Seq.{take-at, drop-at, take-append-add, drop-append-add, getD-at, getD-set-same, getD-set-other, ext-getD, take-nil, take-take, take-add, drop-drop}
+use lib.ListN.{length, take, drop, getD, set, length-append, length-map, length-set, take-append-drop, drop-of-length-le, List·getD-append}
+use lib.Seq.{take-at, drop-at, take-append-add, drop-append-add, getD-at, getD-set-same, getD-set-other, ext-getD, length-take-le, take-nil, take-take, take-add, drop-drop}
 use borrow.Rule.Slice.PartMut.{midOf, putMid}
 use Rattle.lists.specs.Lists.{All, joined, upTo}
 use Rattle.lists.proofs.All.{map-at}
@@ -72,6 +72,13 @@ module _ {A : Type 0} where
   pub block-back : (at count size i : ℕ) (bs : List (List A)) (rest b : List A) → at ≡ i * size → count ≡ size → Each size bs → i < length bs
       → putMid at count (joined bs ++ rest) b ≡ joined (set bs i b) ++ rest
   block-back at count size i bs rest b a c e h = rw (a, c) (block-put size i bs rest b e h)
+
+  -- with nothing after the blocks
+  pub block-lent-alone : (at count size i : ℕ) (bs : List (List A)) → at ≡ i * size → count ≡ size → Each size bs → i < length bs → midOf at count (joined bs) ≡ getD bs i []
+  block-lent-alone at count size i bs a c e h = rw (append-nil (joined bs)) at (block-lent at count size i bs [] a c e h)
+
+  pub block-back-alone : (at count size i : ℕ) (bs : List (List A)) (b : List A) → at ≡ i * size → count ≡ size → Each size bs → i < length bs → putMid at count (joined bs) b ≡ joined (set bs i b)
+  block-back-alone at count size i bs b a c e h = rw (append-nil (joined bs), append-nil (joined (set bs i b))) at (block-back at count size i bs [] b a c e h)
 
   -- the first n blocks of a list, each of so many elements
   unfoldable pub chop : (n size : ℕ) → List A → List (List A)
@@ -147,6 +154,28 @@ module _ {A : Type 0} where
         ∙ ap (λ (x : List A). take b m ++ x) (append-assoc y (drop k (drop b (take n m))) (drop n m) ∙ ap (λ (x : List A). y ++ x) left))
       ∙ sym (append-assoc (take a l) (take b m) (y ++ drop k (drop b m)))
       ∙ ap₂ (λ (x z : List A). x ++ (y ++ drop k z)) (sym (take-add a b l)) (drop-drop b a l)
+
+  -- runs put one after another are one run; a run as long as the list is the list
+  pub put-next : (at i k : ℕ) (l a b : List A) → length a ≡ i → at ≤ length l → putMid (at + i) k (putMid at i l a) b ≡ putMid at (i + k) l (a ++ b)
+  put-next at i k l a b e h =
+      let x = take at l ++ a in
+      let d = drop i (drop at l) in
+      let lx : length x ≡ at + i = length-append (take at l) a ∙ omega (arith, length-take-le at l h) in
+      let X : putMid at i l a ≡ x ++ d = sym (append-assoc (take at l) a d) in
+      rw (X, take-at x d (at + i) lx, drop-at x d (at + i) lx, drop-drop k i (drop at l))
+      (append-assoc (take at l) a (b ++ drop (i + k) (drop at l)) ∙ ap (λ (r : List A). take at l ++ r) (sym (append-assoc a b (drop (i + k) (drop at l)))))
+
+  pub put-all : (k : ℕ) (l a : List A) → k ≡ length l → putMid 0 k l a ≡ a
+  put-all k l a e = let z : drop k l ≡ [] = drop-of-length-le l {i = k} (omega arith) in rw z (append-nil a)
+
+  put-first : (i k : ℕ) (l a b : List A) → length a ≡ i → putMid i k (putMid 0 i l a) b ≡ putMid 0 (i + k) l (a ++ b)
+  put-first i k l a b e = rw (zero-add i) at (put-next 0 i k l a b e (omega arith))
+
+  pub three-runs : (i j k : ℕ) (l a b c x y z : List A) → length l ≡ i + j + k → length a ≡ i → length b ≡ j
+      → x ≡ putMid 0 i l a → y ≡ putMid i j x b → z ≡ putMid (i + j) k y c → z ≡ a ++ b ++ c
+  three-runs i j k l a b c x y z el ea eb ex ey ez =
+      let y′ : y ≡ putMid 0 (i + j) l (a ++ b) = ey ∙ rw ex (put-first i j l a b ea) in
+      ez ∙ rw y′ (put-first (i + j) k l (a ++ b) c (length-append a b ∙ omega arith) ∙ put-all (i + j + k) l (a ++ b ++ c) (sym el))
 
   -- a part behind a head
   pub mid-behind : (a k n : ℕ) (front l : List A) → length front ≡ n → midOf (n + a) k (front ++ l) ≡ midOf a k l

@@ -42,6 +42,15 @@ module _ {A : Type 0} where
   getD-fill (suc n) z (x ∷ xs) zero h = refl
   getD-fill (suc n) z (x ∷ xs) (suc i) h = getD-fill n z xs i (omega arith)
 
+  -- an element replaced
+  pub fill-set : (n : ℕ) (z : A) (xs : List A) (i : ℕ) (y : A) → i < length xs → fillTo n z (set xs i y) ≡ set (fillTo n z xs) i y
+  unfolding fillTo
+  fill-set n z [] i y h = absurd (omega arith)
+  fill-set zero z (x ∷ xs) zero y h = refl
+  fill-set zero z (x ∷ xs) (suc i) y h = refl
+  fill-set (suc n) z (x ∷ xs) zero y h = refl
+  fill-set (suc n) z (x ∷ xs) (suc i) y h = ap (λ (r : List A). x ∷ r) (fill-set n z xs i y (omega arith))
+
   -- one more behind the list takes the place of the first z
   pub fill-more : (n : ℕ) (z : A) (xs : List A) (y : A) → fillTo n z (xs ++ (y ∷ [])) ≡ set (fillTo n z xs) (length xs) y
   unfolding fillTo

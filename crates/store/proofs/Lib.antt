@@ -7,3 +7,4 @@ pub mod Names
 pub mod SoundStates
 pub mod ImageWords
 pub mod Laws
+pub mod Slots
