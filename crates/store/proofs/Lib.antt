@@ -8,3 +8,4 @@ pub mod SoundStates
 pub mod ImageWords
 pub mod Laws
 pub mod Slots
+pub mod View
