@@ -5,7 +5,7 @@ use mathlib.Core.List.{List, [], _∷_, _++_, map, append-assoc, append-nil}
 use native.Mathlib.Nat.{suc-mul, zero-mul, zero-add, add-comm, mul-le-mul-right}
 use native.Mathlib.Decide.{ℕ-discrete}
 use native.Mathlib.Omega.{arith}
-use lib.ListN.{length, take, drop, getD, set, length-append, length-map, length-set, take-append-drop, drop-of-length-le, List·getD-append}
+use lib.ListN.{length, take, drop, getD, set, replicate, replicate-append-replicate, length-append, length-map, length-set, take-append-drop, drop-of-length-le, List·getD-append}
 use lib.Seq.{take-at, drop-at, take-append-add, drop-append-add, getD-at, getD-set-same, getD-set-other, ext-getD, length-take-le, take-nil, take-take, take-add, drop-drop}
 use borrow.Rule.Slice.PartMut.{midOf, putMid}
 use Rattle.lists.specs.Lists.{All, joined, upTo}
@@ -39,6 +39,14 @@ module _ {A : Type 0} where
   unfolding All joined
   length-joined size [] e = sym (zero-mul size)
   length-joined size (b ∷ bs) e = length-append b (joined bs) ∙ omega (arith, e .0, length-joined size bs (e .1), suc-mul (length bs) size)
+
+  pub joined-replicate : (n size : ℕ) (z : A) → joined (replicate n (replicate size z)) ≡ replicate (n * size) z
+  unfolding joined
+  joined-replicate zero size z = ap (λ (k : ℕ). replicate k z) (sym (zero-mul size))
+  joined-replicate (suc n) size z =
+      ap (λ (r : List A). replicate size z ++ r) (joined-replicate n size z)
+      ∙ replicate-append-replicate size (n * size) z
+      ∙ ap (λ (k : ℕ). replicate k z) (add-comm size (n * size) ∙ sym (suc-mul n size))
 
   -- the way past the first block
   past : (size i : ℕ) (b l : List A) → length b ≡ size → drop (suc i * size) (b ++ l) ≡ drop (i * size) l
@@ -146,12 +154,12 @@ module _ {A : Type 0} where
       let c = n - (b + k) in
       let whole : n ≡ b + k + c = omega arith in
       let left : drop k (drop b (take n m)) ++ drop n m ≡ drop k (drop b m) =
-        ap₂ (λ (x z : List A). x ++ z) (drop-drop k b (take n m) ∙ drop-take (b + k) c n m whole) (ap (λ (x : ℕ). drop x m) whole ∙ sym (drop-drop c (b + k) m))
-        ∙ take-append-drop c (drop (b + k) m) ∙ sym (drop-drop k b m) in
+      ap₂ (λ (x z : List A). x ++ z) (drop-drop k b (take n m) ∙ drop-take (b + k) c n m whole) (ap (λ (x : ℕ). drop x m) whole ∙ sym (drop-drop c (b + k) m))
+      ∙ take-append-drop c (drop (b + k) m) ∙ sym (drop-drop k b m) in
       ap (λ (x : List A). take a l ++ x)
-        (ap (λ (x : List A). (x ++ (y ++ drop k (drop b (take n m)))) ++ drop n m) (take-take b n m (omega arith))
-        ∙ append-assoc (take b m) (y ++ drop k (drop b (take n m))) (drop n m)
-        ∙ ap (λ (x : List A). take b m ++ x) (append-assoc y (drop k (drop b (take n m))) (drop n m) ∙ ap (λ (x : List A). y ++ x) left))
+      (ap (λ (x : List A). (x ++ (y ++ drop k (drop b (take n m)))) ++ drop n m) (take-take b n m (omega arith))
+      ∙ append-assoc (take b m) (y ++ drop k (drop b (take n m))) (drop n m)
+      ∙ ap (λ (x : List A). take b m ++ x) (append-assoc y (drop k (drop b (take n m))) (drop n m) ∙ ap (λ (x : List A). y ++ x) left))
       ∙ sym (append-assoc (take a l) (take b m) (y ++ drop k (drop b m)))
       ∙ ap₂ (λ (x z : List A). x ++ (y ++ drop k z)) (sym (take-add a b l)) (drop-drop b a l)
 

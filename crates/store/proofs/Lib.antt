@@ -9,3 +9,4 @@ pub mod ImageWords
 pub mod Laws
 pub mod Slots
 pub mod View
+pub mod Moves

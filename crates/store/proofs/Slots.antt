@@ -1,10 +1,9 @@
 -- A block and its slots, a slot and its words: what is lent, and what comes back.
 use Prim.Native.Nat.{ℕ, zero, suc, _+_, _*_, _≤_, _<_}
 use mathlib.Core.Path.{_≡_, refl, sym, _∙_, ap}
-use mathlib.Core.List.{List, [], _∷_, _++_, map, append-assoc, append-nil}
-use native.Mathlib.Nat.{add-assoc}
+use mathlib.Core.List.{List, [], _∷_, _++_, map, append-assoc}
 use native.Mathlib.Omega.{arith}
-use lib.ListN.{length, take, drop, getD, set, replicate, length-append, replicate-append-replicate}
+use lib.ListN.{length, take, drop, getD, set, replicate, replicate-append-replicate}
 use lib.Seq.{drop-at, drop-drop, take-append-le}
 use borrow.Rule.Slice.PartMut.{midOf, putMid}
 use Rattle.lists.specs.Lists.{joined}
@@ -15,7 +14,6 @@ use Rattle.lists.proofs.Blocks.{block-lent-alone, block-back-alone, three-runs}
 use Rattle.rules.specs.State.{Sizes}
 use Rattle.store.specs.Layout.{slotHead, namesRoom, slotSize, slotCount, Slot, freeSlot, slotWords, block}
 use Rattle.store.proofs.Lengths.{each-slot, slots-in}
-use Rattle.store.proofs.Reading.{FitsSlot}
 
 -- ---- the words of a slot
 

@@ -2,9 +2,8 @@
 use Prim.Native.Nat.{ℕ, zero, suc, _+_, _*_, _≤_, _<_}
 use mathlib.Core.Path.{_≡_, refl, sym, _∙_, ap}
 use mathlib.Core.List.{List, [], _∷_, _++_, map, append-assoc}
-use native.Mathlib.Nat.{add-assoc}
 use native.Mathlib.Omega.{arith}
-use lib.ListN.{length, take, drop, getD, set, length-append}
+use lib.ListN.{length, getD, length-append}
 use borrow.Rule.Slice.PartMut.{midOf, putMid}
 use Rattle.lists.specs.Lists.{upTo, joined}
 use Rattle.lists.specs.Fill.{fillTo}
@@ -82,8 +81,8 @@ module _ (s : State) (rest l : List ℕ) (e : l ≡ image s ++ rest) where
         (λ i. putMid (a i) count (split i) (eb i))
         ∙ put-behind (p * size) count blocksFrom (head s) (joined blocks ++ rest) (changed p) (length-head s)
         ∙ ap (λ (x : List ℕ). head s ++ x)
-          (block-back (p * size) count size p blocks rest (changed p) refl c (each-block s (upTo places)) (omega (arith, length-numbered (blockAt s) places))
-          ∙ ap (λ (bs : List (List ℕ)). joined bs ++ rest) (numbered-set (blockAt s) changed places p (λ q n. ap (block (s .sizes)) (same .same-slots q n))))
+        (block-back (p * size) count size p blocks rest (changed p) refl c (each-block s (upTo places)) (omega (arith, length-numbered (blockAt s) places))
+        ∙ ap (λ (bs : List (List ℕ)). joined bs ++ rest) (numbered-set (blockAt s) changed places p (λ q n. ap (block (s .sizes)) (same .same-slots q n))))
         ∙ sym (append-assoc (head s) (joined (map changed (upTo places))) rest)
         ∙ (λ i. headOf (same .same-module i) (same .same-sizes i) ++ joined (map (λ q. block (same .same-sizes i) (slotsAt s′ q)) (upTo (same .same-sizes i .places))) ++ rest)
 
