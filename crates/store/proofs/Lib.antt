@@ -10,3 +10,4 @@ pub mod Laws
 pub mod Slots
 pub mod View
 pub mod Moves
+pub mod SlotViews
