@@ -1,10 +1,12 @@
 -- Laws of lists every element of which has a property, and of maps over them.
 use Prim.Native.Nat.{ℕ, zero, suc, _<_}
-use mathlib.Core.Path.{_≡_, refl, sym, _∙_, ap}
+use mathlib.Core.Path.{_≡_, refl, sym, _∙_, ap, subst}
+use mathlib.Core.Option.{Option, none, some}
 use mathlib.Core.List.{List, [], _∷_, _++_, map, reverse, reverseAux}
 use native.Mathlib.Omega.{arith}
-use lib.ListN.{length, getD, set}
-use Rattle.lists.specs.Lists.{All, joined, upTo}
+use lib.ListN.{length, take, drop, getD, getElem?, set}
+use Rattle.lists.specs.Lists.{All, joined}
+use Rattle.lists.proofs.Tests.{none-not-some, some-injective}
 
 module _ {A : Type 0} (P : A → Type 0) where
   pub all-append : (xs ys : List A) → All P xs → All P ys → All P (xs ++ ys)
@@ -54,6 +56,12 @@ module _ {A : Type 0} (P : A → Type 0) where
   unfolding All joined
   all-joined [] a = tt
   all-joined (xs ∷ xss) a = all-append xs (joined xss) (a .0) (all-joined xss (a .1))
+
+  pub all-element : (xs : List A) (i : ℕ) {x : A} → All P xs → getElem? xs i ≡ some x → P x
+  unfolding All
+  all-element [] i a e = none-not-some e
+  all-element (y ∷ xs) zero a e = subst P (some-injective e) (a .0)
+  all-element (y ∷ xs) (suc i) a e = all-element xs i (a .1) e
 
   pub all-getD : (xs : List A) (i : ℕ) (d : A) → All P xs → i < length xs → P (getD xs i d)
   unfolding All
@@ -113,6 +121,16 @@ module _ {A B : Type 0} where
   map-set f i [] y = refl
   map-set f zero (x ∷ xs) y = refl
   map-set f (suc i) (x ∷ xs) y = ap (λ (r : List B). f x ∷ r) (map-set f i xs y)
+
+  pub map-take : (f : A → B) (n : ℕ) (xs : List A) → map f (take n xs) ≡ take n (map f xs)
+  map-take f zero xs = refl
+  map-take f (suc n) [] = refl
+  map-take f (suc n) (x ∷ xs) = ap (λ (r : List B). f x ∷ r) (map-take f n xs)
+
+  pub map-drop : (f : A → B) (n : ℕ) (xs : List A) → map f (drop n xs) ≡ drop n (map f xs)
+  map-drop f zero xs = refl
+  map-drop f (suc n) [] = refl
+  map-drop f (suc n) (x ∷ xs) = map-drop f n xs
 
 -- one map after another
 pub maps-after : {A B C : Type 0} (f : A → B) (g : B → C) (xs : List A) → map g (map f xs) ≡ map (λ x. g (f x)) xs

@@ -11,3 +11,5 @@ pub mod Slots
 pub mod View
 pub mod Moves
 pub mod SlotViews
+pub mod SoundSlots
+pub mod SlotHistories

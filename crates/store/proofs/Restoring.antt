@@ -10,7 +10,7 @@ use lib.ListN.{length, take, drop, length-map}
 use lib.Seq.{take-append-seam, drop-append-seam}
 use Rattle.lists.specs.Lists.{All}
 use Rattle.lists.proofs.Tests.{none-not-some}
-use Rattle.lists.proofs.All.{all-so, all-map, map-same, map-reverse, maps-after}
+use Rattle.lists.proofs.All.{all-so, all-any, map-same, map-reverse, maps-after}
 use Rattle.machine.specs.Work.{Work, finished, stuck, toSeq, toSend, toReceive, toSpawn, toSelf, toCheck, work}
 use Rattle.rules.specs.State.{Sizes, Message, Kind, seq, send, rec, spawn, self, check, Letter, letter, Taking, taking, asSend, asRec, Entry, Process, State, historyOf, historyAt}
 use Rattle.rules.specs.Flight.{countLetter, sends, letterOr, sent}
@@ -102,17 +102,17 @@ module _ (s : State) where
   kind-read self before said = refl
   kind-read (check number) before said = refl
 
--- what is read of a history's sends says what was sent
-module _ (read : Entry → Entry) where
-  same-sends : (h : List Entry) → All (λ e. asSend (read e .kind) ≡ asSend (e .kind)) h → sends (map read h) ≡ sends h
+-- what was sent is said by the entries' sends alone
+module _ {A : Type 0} (f g : A → Entry) where
+  alike-sends : (xs : List A) → All (λ x. asSend (f x .kind) ≡ asSend (g x .kind)) xs → sends (map f xs) ≡ sends (map g xs)
   unfolding sends All
-  same-sends [] a = refl
-  same-sends (e ∷ h) a = λ i. countLetter (a .0 i) (same-sends h (a .1) i)
+  alike-sends [] a = refl
+  alike-sends (x ∷ xs) a = λ i. countLetter (a .0 i) (alike-sends xs (a .1) i)
 
-  same-sent : (h : List Entry) (k : ℕ) → All (λ e. asSend (read e .kind) ≡ asSend (e .kind)) h → sent (map read h) k ≡ sent h k
+  pub alike-sent : (xs : List A) (k : ℕ) → All (λ x. asSend (f x .kind) ≡ asSend (g x .kind)) xs → sent (map f xs) k ≡ sent (map g xs) k
   unfolding sent All
-  same-sent [] k a = refl
-  same-sent (e ∷ h) k a = λ i. letterOr (a .0 i) (same-sends h (a .1) i) k (same-sent h k (a .1) i)
+  alike-sent [] k a = refl
+  alike-sent (x ∷ xs) k a = λ i. letterOr (a .0 i) (alike-sends xs (a .1) i) k (alike-sent xs k (a .1) i)
 
 -- the slots of a history, turned round and read, are the history read
 pub turned : {A : Type 0} (f : Slot → A) (h : List Entry) → map f (reverse (map entrySlot (reverse h))) ≡ map (λ e. f (entrySlot e)) h
@@ -130,7 +130,8 @@ module _ (s : State) (kept : (p : ℕ) → All (KeptEntry s) (historyAt s p)) wh
       go none queue a = refl
       go (some process) queue a =
           ap (λ (h : List Entry). sent h k) (turned (readSend (s .module′)) (process .history))
-          ∙ same-sent (λ e. readSend (s .module′) (entrySlot e)) (process .history) k (all-so (λ e x. kind-read s (e .kind) (e .before) (x .sends-said)) (process .history) a)
+          ∙ alike-sent (λ e. readSend (s .module′) (entrySlot e)) (λ e. e) (process .history) k (all-so (λ e x. kind-read s (e .kind) (e .before) (x .sends-said)) (process .history) a)
+          ∙ ap (λ (h : List Entry). sent h k) (map-same (λ e. e) (process .history) (all-any (λ e. refl) (process .history)))
 
   -- a message is read as it was
   message-read : (m : Message) → Kept s m → readMessage (s .module′) (slotsAt s) (nameWord m) ≡ m

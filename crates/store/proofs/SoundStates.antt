@@ -84,7 +84,8 @@ no-history : (s : State) (p : ℕ) → s .processes p ≡ none → historyAt s p
 unfolding historyAt historyOf
 no-history s p e = ap historyOf e
 
-abbrev FlowsBy : Option Taking → List Entry → List Message → Type 0
+-- the rule of Flows by what an entry is
+abbrev pub FlowsBy : Option Taking → List Entry → List Message → Type 0
 FlowsBy o older queue = elim o as (λ x. Type 0) [
   | none ↦ Flows older queue
   | some (taking before m after) ↦ Prefix (before ++ after) queue × Flows older (before ++ (m ∷ after))
