@@ -63,6 +63,11 @@ module _ {A : Type 0} (P : A → Type 0) where
   all-element (y ∷ xs) zero a e = subst P (some-injective e) (a .0)
   all-element (y ∷ xs) (suc i) a e = all-element xs i (a .1) e
 
+  pub all-elements : (xs : List A) → ((i : ℕ) (x : A) → getElem? xs i ≡ some x → P x) → All P xs
+  unfolding All
+  all-elements [] f = tt
+  all-elements (x ∷ xs) f = (f 0 x refl, all-elements xs (λ i y e. f (suc i) y e))
+
   pub all-getD : (xs : List A) (i : ℕ) (d : A) → All P xs → i < length xs → P (getD xs i d)
   unfolding All
   all-getD [] i d a h = absurd (omega arith)
@@ -97,6 +102,11 @@ module _ {A B : Type 0} where
   unfolding All
   all-map P f [] a = tt
   all-map P f (x ∷ xs) a = (a .0, all-map P f xs (a .1))
+
+  pub all-unmap : (P : B → Type 0) (f : A → B) (xs : List A) → All P (map f xs) → All (λ x. P (f x)) xs
+  unfolding All
+  all-unmap P f [] a = tt
+  all-unmap P f (x ∷ xs) a = (a .0, all-unmap P f xs (a .1))
 
   -- maps that agree
   pub map-agree : (f g : A → B) (xs : List A) → All (λ x. f x ≡ g x) xs → map f xs ≡ map g xs

@@ -58,6 +58,10 @@ unfolding oneIf
 one-least true n = omega arith
 one-least false n = omega arith
 
+pub occurs-more : (c x : ℕ) (xs : List ℕ) → occurs c xs ≤ occurs c (x ∷ xs)
+unfolding occurs
+occurs-more c x xs = one-least (eqb c x) (occurs c xs)
+
 -- a list without the elements that are n
 unlessSame : Bool → ℕ → List ℕ → List ℕ
 unlessSame true x xs = xs

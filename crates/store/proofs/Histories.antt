@@ -1,6 +1,6 @@
 -- Histories: their entries, the count of their sends, and what their recs took.
 use Prim.Native.Nat.{ℕ, suc, _≤_, _<_}
-use mathlib.Core.Path.{_≡_, refl, sym, _∙_, ap}
+use mathlib.Core.Path.{_≡_, sym, _∙_, subst}
 use mathlib.Core.Logic.{_⊎_, inl, inr}
 use mathlib.Core.Bool.{Bool, true, false, cond}
 use mathlib.Core.Option.{Option, none, some}
@@ -9,7 +9,7 @@ use native.Mathlib.Omega.{arith}
 use lib.Dec.{eqb}
 use lib.ListN.{length}
 use Rattle.lists.specs.Lists.{All}
-use Rattle.lists.proofs.Tests.{none-not-some, true-or-false, eqb-true, eqb-same, eqb-apart, cond-true, cond-false}
+use Rattle.lists.proofs.Tests.{none-not-some, some-injective, true-or-false, eqb-true, eqb-same, eqb-apart, cond-true, cond-false}
 use Rattle.rules.specs.State.{Letter, letter, asSend, Entry, entryAt}
 use Rattle.rules.specs.Flight.{countLetter, sends, letterOr, sent}
 
@@ -32,6 +32,16 @@ all-entries (x ∷ h) f = (
   f (length h) x (cond-true (some x) (entryAt h (length h)) (eqb-same (length h))),
   all-entries h (λ i e s. f i e (cond-false (some x) (entryAt h i) (eqb-apart (length h) i (λ z. let b = entry-below h i s in omega arith)) ∙ s)),
 )
+
+-- and the other way round
+pub all-entry : (P : Entry → Type 0) (h : List Entry) (i : ℕ) {e : Entry} → All P h → entryAt h i ≡ some e → P e
+unfolding entryAt All
+all-entry P [] i a stands = none-not-some stands
+all-entry P (x ∷ h) i {e} a stands = go (true-or-false (eqb (length h) i)) (all-entry P h i (a .1))
+  where
+    go : (eqb (length h) i ≡ true) ⊎ (eqb (length h) i ≡ false) → (entryAt h i ≡ some e → P e) → P e
+    go (inl t) f = subst P (some-injective (sym (cond-true (some x) (entryAt h i) t) ∙ stands)) (a .0)
+    go (inr t) f = f (sym (cond-false (some x) (entryAt h i) t) ∙ stands)
 
 -- ---- sends
 

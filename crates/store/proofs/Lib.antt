@@ -13,3 +13,5 @@ pub mod Moves
 pub mod SlotViews
 pub mod SoundSlots
 pub mod SlotHistories
+pub mod SlotNames
+pub mod SlotsSound

@@ -11,12 +11,13 @@ use lib.Dec.{eqb, eqb·suc-suc}
 use lib.ListN.{length, take, drop, getD, getElem?, length-append, length-map, length-reverse}
 use Rattle.lists.specs.Lists.{All, any}
 use Rattle.lists.proofs.Tests.{none-not-some, some-injective, true-or-false, true-not-false, eqb-of, eqb-apart, cond-false}
-use Rattle.lists.proofs.All.{all-so, all-both, all-map, all-reverse, map-take, map-drop}
+use Rattle.lists.proofs.All.{all-any, all-reverse, map-take, map-drop}
+use Rattle.machine.specs.Work.{work}
 use Rattle.rules.specs.State.{Sizes, Message, Kind, seq, send, rec, spawn, self, check, Letter, letter, Taking, taking, asSend, asRec, asSpawn, asCheck, Entry, Process, State, historyOf, historyAt, entryAt, isProcess, inPool, isNamed}
 use Rattle.rules.specs.Flight.{sends, sent, alsoTaken, taken}
 use Rattle.rules.specs.Sound.{SoundControl, AboutToSend, SpawnedBy, SentTo, Prefix, Flows, distinct, Sound}
 use Rattle.store.specs.Layout.{nameBase, nameWord, kindSeq, kindSend, kindRec, kindSpawn, kindSelf, kindCheck, Slot}
-use Rattle.store.proofs.Restoring.{sendKind, readSend, readSends, readMessage, readEntry, readProcess, readQueue}
+use Rattle.store.proofs.Restoring.{sendKind, recOf, readSend, readSends, readMessage, readKind, readEntry, readProcess, readQueue, alike-sent}
 use Rattle.store.proofs.Decoding.{restored}
 use Rattle.store.proofs.SoundStates.{FlowsBy}
 use Rattle.store.proofs.SlotViews.{EntryShape, seq-slot, send-slot, rec-slot, spawn-slot, self-slot, check-slot, PresentShape, messagesOf, olderOf, takenOf, newerOf, names-read, queue-split, read-seq, read-send, read-rec, read-spawn, read-self, read-check}
@@ -24,7 +25,7 @@ use Rattle.store.proofs.SoundSlots.{isLive, namesIn, takenName, leftNam
 
 -- ---- the entry of a number in a history read of slots, oldest first
 
-abbrev mapped : {A B : Type 0} → (A → B) → Option A → Option B
+abbrev pub mapped : {A B : Type 0} → (A → B) → Option A → Option B
 mapped f none = none
 mapped f (some a) = some (f a)
 
@@ -42,7 +43,7 @@ entry-later (x ∷ h) e i =
     let same : eqb (length (h ++ (e ∷ []))) (suc i) ≡ eqb (length h) i = ap (λ (n : ℕ). eqb n (suc i)) long ∙ eqb·suc-suc (length h) i in
     λ j. cond (same j) (some x) (entry-later h e i j)
 
-entry-slot : (f : Slot → Entry) (xs : List Slot) (i : ℕ) → entryAt (map f (reverse xs)) i ≡ mapped f (getElem? xs i)
+pub entry-slot : (f : Slot → Entry) (xs : List Slot) (i : ℕ) → entryAt (map f (reverse xs)) i ≡ mapped f (getElem? xs i)
 unfolding entryAt
 entry-slot f [] i = refl
 entry-slot f (x ∷ xs) zero = ap (λ (h : List Entry). entryAt h 0) (ap (map f) (reverse-cons x xs) ∙ map-append f (reverse xs) (x ∷ [])) ∙ entry-first (map f (reverse xs)) (f x)
@@ -101,11 +102,11 @@ module _ (module′ : List ℕ) (places : ℕ → List Slot) where
           let begins : Prefix (olderOf module′ places x ++ newerOf module′ places x) (messagesOf module′ places names) = record {
             others = messagesOf module′ places (g .0 .others);
             whole =
-              ap (messagesOf module′ places) (g .0 .whole) ∙ map-append (readMessage module′ places) (leftNames x) (g .0 .others)
-              ∙ ap (λ (q : List Message). q ++ messagesOf module′ places (g .0 .others)) (left-read x);
+                ap (messagesOf module′ places) (g .0 .whole) ∙ map-append (readMessage module′ places) (leftNames x) (g .0 .others)
+                ∙ ap (λ (q : List Message). q ++ messagesOf module′ places (g .0 .others)) (left-read x);
           } in
           subst (λ (o : Option Taking). FlowsBy o (map (readEntry module′ places) xs) (messagesOf module′ places names)) (sym e)
-            (begins, subst (Flows (map (readEntry module′ places) xs)) (queue-split module′ places x h) (r (x .names) (g .1)))
+          (begins, subst (Flows (map (readEntry module′ places) xs)) (queue-split module′ places x h) (r (x .names) (g .1)))
       go (no-rec n e) f r =
           let g : SlotFlows xs names = subst (λ (b : Bool). SlotFlowsBy b x xs names) n f in
           subst (λ (o : Option Taking). FlowsBy o (map (readEntry module′ places) xs) (messagesOf module′ places names)) (sym e) (r names g)
@@ -120,16 +121,78 @@ module _ (module′ : List ℕ) (places : ℕ → List Slot) where
       go (a-rec t h e) f r =
           let older = map (readEntry module′ places) xs in
           let g : FlowsBy (some (taking (olderOf module′ places x) (takenOf module′ places x) (newerOf module′ places x))) older (messagesOf module′ places names) =
-            subst (λ (o : Option Taking). FlowsBy o older (messagesOf module′ places names)) e f in
+          subst (λ (o : Option Taking). FlowsBy o older (messagesOf module′ places names)) e f in
           let begins : Begins (leftNames x) names = record {
             others = map nameWord (g .0 .others);
             whole =
-              sym (names-read module′ places names)
-              ∙ ap (map nameWord) (g .0 .whole ∙ ap (λ (q : List Message). q ++ g .0 .others) (sym (left-read x)))
-              ∙ map-append nameWord (messagesOf module′ places (leftNames x)) (g .0 .others)
-              ∙ ap (λ (ws : List ℕ). ws ++ map nameWord (g .0 .others)) (names-read module′ places (leftNames x));
+                sym (names-read module′ places names)
+                ∙ ap (map nameWord) (g .0 .whole ∙ ap (λ (q : List Message). q ++ g .0 .others) (sym (left-read x)))
+                ∙ map-append nameWord (messagesOf module′ places (leftNames x)) (g .0 .others)
+                ∙ ap (λ (ws : List ℕ). ws ++ map nameWord (g .0 .others)) (names-read module′ places (leftNames x));
           } in
           subst (λ (b : Bool). SlotFlowsBy b x xs names) (sym t) (begins, r (x .names) (subst (Flows older) (sym (queue-split module′ places x h)) (g .1)))
       go (no-rec n e) f r =
           let g : Flows (map (readEntry module′ places) xs) (messagesOf module′ places names) = subst (λ (o : Option Taking). FlowsBy o (map (readEntry module′ places) xs) (messagesOf module′ places names)) e f in
           subst (λ (b : Bool). SlotFlowsBy b x xs names) (sym n) (r names g)
+
+-- ---- sends by slots
+
+no-send-either : (b : Bool) (k l : Kind) → asSend k ≡ none → asSend l ≡ none → asSend (cond b k l) ≡ none
+no-send-either true k l e f = e
+no-send-either false k l e f = f
+
+no-send-rec : (older queue : List Message) → asSend (recOf older queue) ≡ none
+unfolding asSend recOf
+no-send-rec older [] = refl
+no-send-rec older (m ∷ newer) = refl
+
+-- an entry read whole says the same send as one read for its send alone
+send-alike : (module′ : List ℕ) (places : ℕ → List Slot) (x : Slot) → asSend (readEntry module′ places x .kind) ≡ asSend (readSend module′ x .kind)
+unfolding readEntry readSend readKind asSend
+send-alike module′ places x = go (eqb (x .kind) kindSend) _ (no-send-either (eqb (x .kind) kindRec) _ _ (no-send-rec (olderAt x) (fromAt x)) (no-send-either (eqb (x .kind) kindSpawn) _ _ refl (no-send-either (eqb (x .kind) kindSelf) _ _ refl (no-send-either (eqb (x .kind) kindCheck) _ _ refl refl))))
+  where
+    olderAt : Slot → List Message
+    olderAt y = take (y .number) (messagesOf module′ places (y .names))
+
+    fromAt : Slot → List Message
+    fromAt y = drop (y .number) (messagesOf module′ places (y .names))
+
+    go : (b : Bool) (k : Kind) → asSend k ≡ none → asSend (cond b (sendKind (work module′ (x .control))) k) ≡ asSend (cond b (sendKind (work module′ (x .control))) seq)
+    go true k e = refl
+    go false k e = e
+
+-- ---- the state that is read
+
+module _ (module′ : List ℕ) (sizes : Sizes) (places : ℕ → List Slot) where
+  abbrev pub readState : State
+  readState = restored module′ sizes places
+
+  pub history-read : (p : ℕ) → historyAt readState p ≡ map (readEntry module′ places) (newestFirst places p)
+  unfolding restored historyAt historyOf readProcess
+  history-read p = go (places p)
+    where
+      go : (xs : List Slot) → historyOf (readProcess module′ places xs) ≡ map (readEntry module′ places) (reverse (tail xs))
+      go [] = refl
+      go (x ∷ xs) = refl
+
+  pub pool-read : (p : ℕ) → inPool readState p ≡ isLive (places p)
+  unfolding restored inPool isProcess readProcess isLive
+  pool-read p = go (places p)
+    where
+      go : (xs : List Slot) → isProcess (readProcess module′ places xs) ≡ isLive xs
+      go [] = refl
+      go (x ∷ xs) = refl
+
+  pub queue-read : (p : ℕ) → readState .queues p ≡ messagesOf module′ places (namesIn (places p))
+  unfolding restored readQueue namesIn
+  queue-read p = go (places p)
+    where
+      go : (xs : List Slot) → readQueue module′ places xs ≡ messagesOf module′ places (namesIn xs)
+      go [] = refl
+      go (x ∷ xs) = refl
+
+  pub sent-read : (p k : ℕ) → sent (historyAt readState p) k ≡ sentBy module′ places p k
+  unfolding readSends
+  sent-read p k =
+      ap (λ (h : List Entry). sent h k) (history-read p)
+      ∙ alike-sent (readEntry module′ places) (readSend module′) (newestFirst places p) k (all-any (send-alike module′ places) (newestFirst places p))

@@ -123,10 +123,10 @@ module _ (module′ : List ℕ) (places : ℕ → List Slot) where
   slots-again (x ∷ xs) present entries =
       let p = present x xs refl in
       let first : presentSlot (record { control = x .control; history = map (readEntry module′ places) (reverse xs) }) (messagesOf (x .names)) ≡ x =
-        λ i. record { kind = sym (p .is-live) i; number = sym (p .no-number) i; control = x .control; names = names-read (x .names) i } in
+      λ i. record { kind = sym (p .is-live) i; number = sym (p .no-number) i; control = x .control; names = names-read (x .names) i } in
       let others : map entrySlot (reverse (map (readEntry module′ places) (reverse xs))) ≡ xs =
-        ap (λ (es : List Entry). map entrySlot (reverse es)) (map-reverse (readEntry module′ places) xs)
-        ∙ ap (map entrySlot) (reverse-reverse (map (readEntry module′ places) xs))
-        ∙ maps-after (readEntry module′ places) entrySlot xs
-        ∙ map-same (λ y. entrySlot (readEntry module′ places y)) xs (all-so slot-of-entry xs entries) in
+      ap (λ (es : List Entry). map entrySlot (reverse es)) (map-reverse (readEntry module′ places) xs)
+      ∙ ap (map entrySlot) (reverse-reverse (map (readEntry module′ places) xs))
+      ∙ maps-after (readEntry module′ places) entrySlot xs
+      ∙ map-same (λ y. entrySlot (readEntry module′ places y)) xs (all-so slot-of-entry xs entries) in
       λ i. first i ∷ others i

@@ -52,28 +52,19 @@ unfoldable pub SlotFlows : List Slot → List ℕ → Type 0
 SlotFlows [] names = Unit {0}
 SlotFlows (x ∷ older) names = elim (eqb (x .kind) kindRec) [ false ↦ SlotFlows older names | true ↦ Begins (leftNames x) names × SlotFlows older (x .names) ]
 
-module _ (module′ : List ℕ) (sizes : Sizes) (places : ℕ → List Slot) where
-  -- a control that passes the control check, of at most W words
-  pub record Passes (control : List ℕ) : Type 0 where
-    pub good : goodControl (sizes .places) (moduleArities module′) control ≡ true
-    pub fits : length control ≤ sizes .words
+-- a control that passes the control check, of at most W words
+pub record Passes (module′ : List ℕ) (sizes : Sizes) (control : List ℕ) : Type 0 where
+  pub good : goodControl (sizes .places) (moduleArities module′) control ≡ true
+  pub fits : length control ≤ sizes .words
 
+module _ (places : ℕ → List Slot) where
   -- the entries of a place, newest first
   abbrev pub newestFirst : ℕ → List Slot
   newestFirst p = reverse (tail (places p))
 
-  -- what the k-th send of p sent
-  abbrev pub sentBy : ℕ → ℕ → Option Letter
-  sentBy p k = sent (readSends module′ (places p)) k
-
   -- the names of all messages that came to t
   abbrev pub arrived : ℕ → List ℕ
   arrived t = namesIn (places t) ++ takenNames (newestFirst t)
-
-  -- the word names a message that was sent to t
-  pub record SaidTo (t w : ℕ) : Type 0 where
-    pub value : List ℕ
-    pub said : sentBy (w / nameBase) (w % nameBase) ≡ some (letter t value)
 
   -- entry i of p is the spawn of q
   pub record SpawnSlot (q p i : ℕ) : Type 0 where
@@ -82,25 +73,35 @@ module _ (module′ : List ℕ) (sizes : Sizes) (places : ℕ → List Slot) whe
     pub is-spawn : slot .kind ≡ kindSpawn
     pub child : slot .number ≡ q
 
+module _ (module′ : List ℕ) (places : ℕ → List Slot) where
+  -- what the k-th send of p sent
+  abbrev pub sentBy : ℕ → ℕ → Option Letter
+  sentBy p k = sent (readSends module′ (places p)) k
+
+  -- the word names a message that was sent to t
+  pub record SaidTo (t w : ℕ) : Type 0 where
+    pub value : List ℕ
+    pub said : sentBy (w / nameBase) (w % nameBase) ≡ some (letter t value)
+
   -- each slot in use is that of a process or an entry
   pub record Shaped : Type 0 where
     pub presents : (p : ℕ) (x : Slot) (xs : List Slot) → places p ≡ x ∷ xs → PresentShape x
     pub entries : (p : ℕ) → All (EntryShape module′) (tail (places p))
 
-  pub record SoundSlots : Type 0 where
-    pub shaped : Shaped
-    pub sizes-pass : goodSizes sizes ≡ true
-    pub module-passes : checkModule module′ ≡ none
-    pub place-0 : isLive (places 0) ≡ true
-    pub places-end : (p : ℕ) → sizes .places ≤ p → isLive (places p) ≡ false
-    pub entries-fit : (p : ℕ) → length (tail (places p)) ≤ sizes .entries
-    pub controls : (p : ℕ) (x : Slot) (xs : List Slot) → places p ≡ x ∷ xs → Passes (x .control)
-    pub controls-before : (p : ℕ) → All (λ x. Passes (x .control)) (tail (places p))
-    pub born : (q : ℕ) → isLive (places q) ≡ true → ¬ (q ≡ 0) → (p : ℕ) × (i : ℕ) × SpawnSlot q p i
-    pub born-once : (q p i p′ i′ : ℕ) → SpawnSlot q p i → SpawnSlot q p′ i′ → (p ≡ p′) × (i ≡ i′)
-    pub place-0-unborn : (p i : ℕ) → ¬ SpawnSlot 0 p i
-    pub children-live : (q p i : ℕ) → SpawnSlot q p i → isLive (places q) ≡ true
-    pub targets-live : (p k target : ℕ) (value : List ℕ) → sentBy p k ≡ some (letter target value) → isLive (places target) ≡ true
-    pub once : (t c : ℕ) → occurs c (arrived t) ≤ 1
-    pub nothing-else : (t : ℕ) → All (SaidTo t) (arrived t)
-    pub prefixes : (p : ℕ) → SlotFlows (newestFirst p) (namesIn (places p))
+pub record SoundSlots (module′ : List ℕ) (sizes : Sizes) (places : ℕ → List Slot) : Type 0 where
+  pub shaped : Shaped module′ places
+  pub sizes-pass : goodSizes sizes ≡ true
+  pub module-passes : checkModule module′ ≡ none
+  pub place-0 : isLive (places 0) ≡ true
+  pub places-end : (p : ℕ) → sizes .places ≤ p → isLive (places p) ≡ false
+  pub entries-fit : (p : ℕ) → length (tail (places p)) ≤ sizes .entries
+  pub controls : (p : ℕ) (x : Slot) (xs : List Slot) → places p ≡ x ∷ xs → Passes module′ sizes (x .control)
+  pub controls-before : (p : ℕ) → All (λ x. Passes module′ sizes (x .control)) (tail (places p))
+  pub born : (q : ℕ) → isLive (places q) ≡ true → ¬ (q ≡ 0) → (p : ℕ) × (i : ℕ) × SpawnSlot places q p i
+  pub born-once : (q p i p′ i′ : ℕ) → SpawnSlot places q p i → SpawnSlot places q p′ i′ → (p ≡ p′) × (i ≡ i′)
+  pub place-0-unborn : (p i : ℕ) → ¬ SpawnSlot places 0 p i
+  pub children-live : (q p i : ℕ) → SpawnSlot places q p i → isLive (places q) ≡ true
+  pub targets-live : (p k target : ℕ) (value : List ℕ) → sentBy module′ places p k ≡ some (letter target value) → isLive (places target) ≡ true
+  pub once : (t c : ℕ) → occurs c (arrived places t) ≤ 1
+  pub nothing-else : (t : ℕ) → All (SaidTo module′ places t) (arrived places t)
+  pub prefixes : (p : ℕ) → SlotFlows (newestFirst places p) (namesIn (places p))
