@@ -86,14 +86,14 @@ module _ (s : State) (x : Storable s) where
       )
 
   places-read : (rest : List ℕ) → readPlace (s .sizes) (image s ++ rest) ≡ slotsAt s
-  unfolding slotsAt placeSlots
+  unfolding image slotsAt placeSlots
   places-read rest = fun-ext λ p. go p (true-or-false (ltb p (s .sizes .places)))
     where
       go : (p : ℕ) → (ltb p (s .sizes .places) ≡ true) ⊎ (ltb p (s .sizes .places) ≡ false) → readPlace (s .sizes) (image s ++ rest) p ≡ slotsAt s p
-      go p (inl e) = read-place s rest p (ltb-true p (s .sizes .places) e) (slots-few p) (slots-used p) (slots-fit p)
-      go p (inr e) = let h = ltb-false p (s .sizes .places) e in read-past s rest p h ∙ sym (ap (λ (o : Option Process). placeSlots o (s .queues p)) (x .pool-ends p h))
+      go p (inl e) = read-place (s .module′) (s .sizes) (slotsAt s) rest p (ltb-true p (s .sizes .places) e) (slots-few p) (slots-used p) (slots-fit p)
+      go p (inr e) = let h = ltb-false p (s .sizes .places) e in read-past (s .sizes) (image s ++ rest) p h ∙ sym (ap (λ (o : Option Process). placeSlots o (s .queues p)) (x .pool-ends p h))
 
-  restored-same : restored (s .module′) (s .sizes) (slotsAt s) ≡ s
+  pub restored-same : restored (s .module′) (s .sizes) (slotsAt s) ≡ s
   unfolding restored
   restored-same =
       let processes : (λ p. readProcess (s .module′) (slotsAt s) (slotsAt s p)) ≡ s .processes = fun-ext λ p. process-read s (x .entries) p in
@@ -101,9 +101,9 @@ module _ (s : State) (x : Storable s) where
       λ i. record { module′ = s .module′; sizes = s .sizes; processes = processes i; queues = queues i }
 
   pub decode-image : (rest : List ℕ) → decode (image s ++ rest) ≡ s
-  unfolding decode
+  unfolding decode image
   decode-image rest =
-      (λ i. restored (read-module s rest (x .module-fits) i) (read-sizes s rest i) (readPlace (read-sizes s rest i) (image s ++ rest)))
+      (λ i. restored (read-module (s .module′) (s .sizes) (slotsAt s) rest (x .module-fits) i) (read-sizes (s .module′) (s .sizes) (slotsAt s) rest i) (readPlace (read-sizes (s .module′) (s .sizes) (slotsAt s) rest i) (image s ++ rest)))
       ∙ ap (restored (s .module′) (s .sizes)) (places-read rest)
       ∙ restored-same
 

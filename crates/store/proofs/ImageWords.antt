@@ -18,7 +18,7 @@ use Rattle.term.specs.Module.{longestModule}
 use Rattle.rules.specs.State.{Sizes, Message, Kind, seq, send, rec, spawn, self, check, asRec, asSpawn, asCheck, Entry, Process, State, historyOf, historyAt, entryAt, inPool}
 use Rattle.rules.specs.Sound.{SpawnedBy, SentTo, Sound}
 use Rattle.rules.specs.Depends.{queueBefore}
-use Rattle.store.specs.Layout.{namesRoom, slotCount, nameBase, nameWord, Slot, freeSlot, slotWords, kindNumber, numberIn, entrySlot, presentSlot, placeSlots, slotsAt, block, head, image}
+use Rattle.store.specs.Layout.{namesRoom, slotCount, nameBase, nameWord, Slot, freeSlot, slotWords, kindNumber, numberIn, entrySlot, presentSlot, placeSlots, slotsAt, block, head, laid, image}
 use Rattle.store.specs.Image.{IsWord, Worded}
 use Rattle.store.proofs.Lengths.{blockAt}
 use Rattle.store.proofs.Restoring.{Kept, KeptQueue, KeptEntry}
@@ -163,7 +163,7 @@ module _ (s : State) (sound : Sound s) (words : Worded s) where
         all-map WordSlot entrySlot (reverse (process .history)) (all-reverse (λ e. WordSlot (entrySlot e)) (process .history) a),
       )
 
-  head-words : All IsWord (head s)
+  head-words : All IsWord (head (s .module′) (s .sizes))
   unfolding head All
   head-words = (
     omega (arith, sizes .places-high),
@@ -180,8 +180,8 @@ module _ (s : State) (sound : Sound s) (words : Worded s) where
   )
 
   pub image-words : All IsWord (image s)
-  unfolding image
+  unfolding image laid
   image-words =
       let places = upTo (s .sizes .places) in
-      all-append IsWord (head s) (joined (map (blockAt s) places)) head-words
-      (all-joined IsWord (map (blockAt s) places) (all-map (All IsWord) (blockAt s) places (all-any (λ p. block-words (s .sizes) (slotsAt s p) (slots-words p)) places)))
+      all-append IsWord (head (s .module′) (s .sizes)) (joined (map (blockAt (s .sizes) (slotsAt s)) places)) head-words
+      (all-joined IsWord (map (blockAt (s .sizes) (slotsAt s)) places) (all-map (All IsWord) (blockAt (s .sizes) (slotsAt s)) places (all-any (λ p. block-words (s .sizes) (slotsAt s p) (slots-words p)) places)))

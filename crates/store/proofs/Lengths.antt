@@ -13,7 +13,7 @@ use Rattle.lists.proofs.Blocks.{Each, length-joined, length-upTo, length-number
 use Rattle.term.specs.Module.{longestModule}
 use Rattle.rules.specs.State.{Sizes, State}
 use Rattle.rules.specs.Cases.{benchSizes}
-use Rattle.store.specs.Layout.{headWords, blocksFrom, slotHead, namesRoom, slotSize, slotCount, blockSize, needed, Slot, freeSlot, slotWords, slotsAt, block, head, image}
+use Rattle.store.specs.Layout.{headWords, blocksFrom, slotHead, namesRoom, slotSize, slotCount, blockSize, needed, Slot, freeSlot, slotWords, slotsAt, block, head, laid, image}
 use Rattle.store.specs.Image.{mostNeeded, benchStore}
 
 pub length-slot : (sizes : Sizes) (x : Slot) → length (slotWords sizes x) ≡ slotSize sizes
@@ -36,24 +36,31 @@ length-block sizes xs =
     length-joined (slotSize sizes) (map (slotWords sizes) (fillTo (slotCount sizes) freeSlot xs)) (each-slot sizes (fillTo (slotCount sizes) freeSlot xs))
     ∙ ap (λ (n : ℕ). n * slotSize sizes) (slots-in sizes xs)
 
--- the block of each place of a state
-abbrev pub blockAt : State → ℕ → List ℕ
-blockAt s p = block (s .sizes) (slotsAt s p)
+-- the block of each place
+abbrev pub blockAt : Sizes → (ℕ → List Slot) → ℕ → List ℕ
+blockAt sizes places p = block sizes (places p)
 
-pub each-block : (s : State) (ps : List ℕ) → Each (blockSize (s .sizes)) (map (blockAt s) ps)
-each-block s ps = all-map (λ b. length b ≡ blockSize (s .sizes)) (blockAt s) ps (all-any (λ p. length-block (s .sizes) (slotsAt s p)) ps)
+pub each-block : (sizes : Sizes) (places : ℕ → List Slot) (ps : List ℕ) → Each (blockSize sizes) (map (blockAt sizes places) ps)
+each-block sizes places ps = all-map (λ b. length b ≡ blockSize sizes) (blockAt sizes places) ps (all-any (λ p. length-block sizes (places p)) ps)
 
-pub length-head : (s : State) → length (head s) ≡ blocksFrom
+pub length-head : (module′ : List ℕ) (sizes : Sizes) → length (head module′ sizes) ≡ blocksFrom
 unfolding head
-length-head s = omega (arith, length-fill longestModule 0 (s .module′))
+length-head module′ sizes = omega (arith, length-fill longestModule 0 module′)
+
+pub length-laid : (module′ : List ℕ) (sizes : Sizes) (places : ℕ → List Slot) → length (laid module′ sizes places) ≡ needed sizes
+unfolding laid
+length-laid module′ sizes places =
+    let blocks = map (blockAt sizes places) (upTo (sizes .places)) in
+    length-append (head module′ sizes) (joined blocks)
+    ∙ ap (λ (n : ℕ). n + length (joined blocks)) (length-head module′ sizes)
+    ∙ ap
+    (λ (n : ℕ). blocksFrom + n)
+    (length-joined (blockSize sizes) blocks (each-block sizes places (upTo (sizes .places)))
+    ∙ ap (λ (n : ℕ). n * blockSize sizes) (length-numbered (blockAt sizes places) (sizes .places)))
 
 pub length-image : (s : State) → length (image s) ≡ needed (s .sizes)
 unfolding image
-length-image s =
-    let blocks = map (blockAt s) (upTo (s .sizes .places)) in
-    length-append (head s) (joined blocks)
-    ∙ ap (λ (n : ℕ). n + length (joined blocks)) (length-head s)
-    ∙ ap (λ (n : ℕ). blocksFrom + n) (length-joined (blockSize (s .sizes)) blocks (each-block s (upTo (s .sizes .places))) ∙ ap (λ (n : ℕ). n * blockSize (s .sizes)) (length-numbered (blockAt s) (s .sizes .places)))
+length-image s = length-laid (s .module′) (s .sizes) (slotsAt s)
 
 pub needed-most : (sizes : Sizes) → needed sizes ≤ mostNeeded sizes
 unfolding mostNeeded

@@ -15,3 +15,4 @@ pub mod SoundSlots
 pub mod SlotHistories
 pub mod SlotNames
 pub mod SlotsSound
+pub mod LaidOut

@@ -1,4 +1,4 @@
--- Reading slots off words: what is read off an image are the slots of its state.
+-- Reading slots off words: what is read are the slots that were laid out.
 use Prim.Native.Nat.{ℕ, zero, suc, _+_, _*_, _≤_, _<_}
 use mathlib.Core.Path.{_≡_, refl, sym, _∙_, ap}
 use mathlib.Core.Bool.{cond}
@@ -14,9 +14,9 @@ use Rattle.lists.proofs.All.{all-so, map-same, maps-after}
 use Rattle.lists.proofs.Fill.{length-fill, take-fill, all-fill}
 use Rattle.lists.proofs.Blocks.{chop, chop-is, length-chop, length-numbered, numbered-at}
 use Rattle.term.specs.Module.{longestModule}
-use Rattle.rules.specs.State.{Sizes, State}
-use Rattle.store.specs.Layout.{headWords, blocksFrom, slotHead, namesRoom, slotSize, slotCount, blockSize, needed, kindFree, Slot, freeSlot, slotWords, slotsAt, block, head, image}
-use Rattle.store.proofs.Lengths.{length-slot, each-slot, slots-in, blockAt, each-block, length-head, length-image}
+use Rattle.rules.specs.State.{Sizes}
+use Rattle.store.specs.Layout.{headWords, blocksFrom, slotHead, namesRoom, slotSize, slotCount, blockSize, kindFree, Slot, freeSlot, slotWords, block, head, laid}
+use Rattle.store.proofs.Lengths.{each-slot, slots-in, blockAt, each-block, length-head}
 
 -- ---- one slot
 
@@ -89,38 +89,43 @@ readModule l = take (getD l 3 0) (drop headWords l)
 unfoldable pub readPlace : Sizes → List ℕ → ℕ → List Slot
 readPlace sizes l p = readBlock sizes (getD (chop (sizes .places) (blockSize sizes) (drop blocksFrom l)) p [])
 
--- ---- what is read off an image
+-- ---- what is read off words that were laid out
 
-module _ (s : State) (rest : List ℕ) where
+module _ (module′ : List ℕ) (sizes : Sizes) (places : ℕ → List Slot) (rest : List ℕ) where
+  abbrev pub words : List ℕ
+  words = laid module′ sizes places ++ rest
+
   blocks : List (List ℕ)
-  blocks = map (blockAt s) (upTo (s .sizes .places))
+  blocks = map (blockAt sizes places) (upTo (sizes .places))
 
-  past-head : drop blocksFrom (image s ++ rest) ≡ joined blocks ++ rest
-  unfolding image blocks
-  past-head = ap (drop blocksFrom) (append-assoc (head s) (joined blocks) rest) ∙ drop-at (head s) (joined blocks ++ rest) blocksFrom (length-head s)
+  past-head : drop blocksFrom words ≡ joined blocks ++ rest
+  unfolding laid blocks
+  past-head = ap (drop blocksFrom) (append-assoc (head module′ sizes) (joined blocks) rest) ∙ drop-at (head module′ sizes) (joined blocks ++ rest) blocksFrom (length-head module′ sizes)
 
-  pub read-sizes : readSizes (image s ++ rest) ≡ s .sizes
-  unfolding readSizes image head
+  pub read-sizes : readSizes words ≡ sizes
+  unfolding readSizes laid head
   read-sizes = refl
 
-  pub read-module : length (s .module′) ≤ longestModule → readModule (image s ++ rest) ≡ s .module′
-  unfolding readModule image head
+  pub read-module : length module′ ≤ longestModule → readModule words ≡ module′
+  unfolding readModule laid head
   read-module h =
-      let filled = fillTo longestModule 0 (s .module′) in
-      ap (take (length (s .module′))) (append-assoc filled (joined (map (blockAt s) (upTo (s .sizes .places)))) rest)
-      ∙ take-append-le (length (s .module′)) filled (joined (map (blockAt s) (upTo (s .sizes .places))) ++ rest) (omega (arith, length-fill longestModule 0 (s .module′)))
-      ∙ take-fill longestModule 0 (s .module′) h
+      let filled = fillTo longestModule 0 module′ in
+      let blocks′ = joined (map (blockAt sizes places) (upTo (sizes .places))) in
+      ap (take (length module′)) (append-assoc filled blocks′ rest)
+      ∙ take-append-le (length module′) filled (blocks′ ++ rest) (omega (arith, length-fill longestModule 0 module′))
+      ∙ take-fill longestModule 0 module′ h
 
-  pub read-place : (p : ℕ) → p < s .sizes .places → length (slotsAt s p) ≤ slotCount (s .sizes) → All Used (slotsAt s p) → All (FitsSlot (s .sizes)) (slotsAt s p)
-      → readPlace (s .sizes) (image s ++ rest) p ≡ slotsAt s p
+  pub read-place : (p : ℕ) → p < sizes .places → length (places p) ≤ slotCount sizes → All Used (places p) → All (FitsSlot sizes) (places p) → readPlace sizes words p ≡ places p
   unfolding readPlace blocks
   read-place p h few used fit =
-      ap (λ (l : List ℕ). readBlock (s .sizes) (getD (chop (s .sizes .places) (blockSize (s .sizes)) l) p [])) past-head
-      ∙ ap (λ (bs : List (List ℕ)). readBlock (s .sizes) (getD bs p [])) (chop-is (s .sizes .places) (blockSize (s .sizes)) blocks rest (length-numbered (blockAt s) (s .sizes .places)) (each-block s (upTo (s .sizes .places))))
-      ∙ ap (readBlock (s .sizes)) (numbered-at (blockAt s) (s .sizes .places) p h ∙ sym (append-nil (blockAt s p)))
-      ∙ read-block (s .sizes) (slotsAt s p) [] few used fit
+      ap (λ (l : List ℕ). readBlock sizes (getD (chop (sizes .places) (blockSize sizes) l) p [])) past-head
+      ∙ ap (λ (bs : List (List ℕ)). readBlock sizes (getD bs p [])) (chop-is (sizes .places) (blockSize sizes) blocks rest (length-numbered (blockAt sizes places) (sizes .places)) (each-block sizes places (upTo (sizes .places))))
+      ∙ ap (readBlock sizes) (numbered-at (blockAt sizes places) (sizes .places) p h ∙ sym (append-nil (blockAt sizes places p)))
+      ∙ read-block sizes (places p) [] few used fit
 
-  pub read-past : (p : ℕ) → s .sizes .places ≤ p → readPlace (s .sizes) (image s ++ rest) p ≡ []
-  unfolding readPlace
-  read-past p h = ap (readBlock (s .sizes)) (List·getD-eq-default (chop (s .sizes .places) (blockSize (s .sizes)) (drop blocksFrom (image s ++ rest))) [] (omega (arith, length-chop (s .sizes .places) (blockSize (s .sizes)) (drop blocksFrom (image s ++ rest)))))
-      ∙ read-nothing (s .sizes)
+-- past the last place nothing is read
+pub read-past : (sizes : Sizes) (l : List ℕ) (p : ℕ) → sizes .places ≤ p → readPlace sizes l p ≡ []
+unfolding readPlace
+read-past sizes l p h =
+    let blocks = chop (sizes .places) (blockSize sizes) (drop blocksFrom l) in
+    ap (readBlock sizes) (List·getD-eq-default blocks [] (omega (arith, length-chop (sizes .places) (blockSize sizes) (drop blocksFrom l)))) ∙ read-nothing sizes

@@ -6,18 +6,13 @@ use native.Mathlib.Omega.{arith}
 use lib.ListN.{length, getD, length-append}
 use borrow.Rule.Slice.PartMut.{midOf, putMid}
 use Rattle.lists.specs.Lists.{upTo, joined}
-use Rattle.lists.specs.Fill.{fillTo}
 use Rattle.lists.proofs.Blocks.{block-in, block-lent, block-back, length-numbered, numbered-at, numbered-set, mid-behind, put-behind, mid-mid}
 use Rattle.term.specs.Module.{longestModule}
-use Rattle.rules.specs.State.{Sizes, State}
-use Rattle.store.specs.Layout.{headWords, blocksFrom, slotSize, slotCount, blockSize, needed, freeSlot, slotWords, slotsAt, block, head, image}
+use Rattle.rules.specs.State.{State}
+use Rattle.store.specs.Layout.{headWords, blocksFrom, slotSize, slotCount, blockSize, needed, freeSlot, slotWords, slotsAt, block, head, laid, image}
 use Rattle.store.proofs.Lengths.{blockAt, each-block, length-head, length-image}
 use Rattle.store.proofs.Reading.{readModule, read-module}
 use Rattle.store.proofs.Slots.{slot-lent}
-
--- the first words, of a module and sizes
-headOf : List ℕ → Sizes → List ℕ
-headOf module′ sizes = sizes .places ∷ sizes .entries ∷ sizes .words ∷ length module′ ∷ fillTo longestModule 0 module′
 
 -- two states of one module and sizes whose slots differ at one place alone
 pub record ElsewhereSame (p : ℕ) (s s′ : State) : Type 0 where
@@ -27,35 +22,35 @@ pub record ElsewhereSame (p : ℕ) (s s′ : State) : Type 0 where
 
 module _ (s : State) (rest l : List ℕ) (e : l ≡ image s ++ rest) where
   pub places-word : getD l 0 0 ≡ s .sizes .places
-  unfolding image head
+  unfolding image laid head
   places-word = ap (λ (x : List ℕ). getD x 0 0) e
 
   pub entries-word : getD l 1 0 ≡ s .sizes .entries
-  unfolding image head
+  unfolding image laid head
   entries-word = ap (λ (x : List ℕ). getD x 1 0) e
 
   pub words-word : getD l 2 0 ≡ s .sizes .words
-  unfolding image head
+  unfolding image laid head
   words-word = ap (λ (x : List ℕ). getD x 2 0) e
 
   pub module-length-word : getD l 3 0 ≡ length (s .module′)
-  unfolding image head
+  unfolding image laid head
   module-length-word = ap (λ (x : List ℕ). getD x 3 0) e
 
   -- the module, as it is lent
   pub module-lent : (count : ℕ) → count ≡ length (s .module′) → length (s .module′) ≤ longestModule → midOf headWords count l ≡ s .module′
-  unfolding readModule
-  module-lent count c h = ap (λ (n : ℕ). midOf headWords n l) (c ∙ sym module-length-word) ∙ ap readModule e ∙ read-module s rest h
+  unfolding readModule image
+  module-lent count c h = ap (λ (n : ℕ). midOf headWords n l) (c ∙ sym module-length-word) ∙ ap readModule e ∙ read-module (s .module′) (s .sizes) (slotsAt s) rest h
 
   pub long-enough : needed (s .sizes) ≤ length l
   long-enough = omega (arith, ap length e, length-append (image s) rest, length-image s)
 
   blocks : List (List ℕ)
-  blocks = map (blockAt s) (upTo (s .sizes .places))
+  blocks = map (blockAt (s .sizes) (slotsAt s)) (upTo (s .sizes .places))
 
-  split : l ≡ head s ++ (joined blocks ++ rest)
-  unfolding image blocks
-  split = e ∙ append-assoc (head s) (joined blocks) rest
+  split : l ≡ head (s .module′) (s .sizes) ++ (joined blocks ++ rest)
+  unfolding image laid blocks
+  split = e ∙ append-assoc (head (s .module′) (s .sizes)) (joined blocks) rest
 
   module _ (p at count : ℕ) (in-places : p < s .sizes .places) (a : at ≡ blocksFrom + p * blockSize (s .sizes)) (c : count ≡ blockSize (s .sizes)) where
     pub block-within : at + count ≤ length l
@@ -67,24 +62,24 @@ module _ (s : State) (rest l : List ℕ) (e : l ≡ image s ++ rest) where
     place-lent =
         let size = blockSize (s .sizes) in
         (λ i. midOf (a i) count (split i))
-        ∙ mid-behind (p * size) count blocksFrom (head s) (joined blocks ++ rest) (length-head s)
-        ∙ block-lent (p * size) count size p blocks rest refl c (each-block s (upTo (s .sizes .places))) (omega (arith, length-numbered (blockAt s) (s .sizes .places)))
-        ∙ numbered-at (blockAt s) (s .sizes .places) p in-places
+        ∙ mid-behind (p * size) count blocksFrom (head (s .module′) (s .sizes)) (joined blocks ++ rest) (length-head (s .module′) (s .sizes))
+        ∙ block-lent (p * size) count size p blocks rest refl c (each-block (s .sizes) (slotsAt s) (upTo (s .sizes .places))) (omega (arith, length-numbered (blockAt (s .sizes) (slotsAt s)) (s .sizes .places)))
+        ∙ numbered-at (blockAt (s .sizes) (slotsAt s)) (s .sizes .places) p in-places
 
     -- and as it comes back
     pub place-back : (s′ : State) (b : List ℕ) → ElsewhereSame p s s′ → b ≡ block (s .sizes) (slotsAt s′ p) → putMid at count l b ≡ image s′ ++ rest
-    unfolding image blocks head headOf
+    unfolding image laid blocks
     place-back s′ b same eb =
         let size = blockSize (s .sizes) in
         let places = s .sizes .places in
         let changed : ℕ → List ℕ = λ q. block (s .sizes) (slotsAt s′ q) in
         (λ i. putMid (a i) count (split i) (eb i))
-        ∙ put-behind (p * size) count blocksFrom (head s) (joined blocks ++ rest) (changed p) (length-head s)
-        ∙ ap (λ (x : List ℕ). head s ++ x)
-        (block-back (p * size) count size p blocks rest (changed p) refl c (each-block s (upTo places)) (omega (arith, length-numbered (blockAt s) places))
-        ∙ ap (λ (bs : List (List ℕ)). joined bs ++ rest) (numbered-set (blockAt s) changed places p (λ q n. ap (block (s .sizes)) (same .same-slots q n))))
-        ∙ sym (append-assoc (head s) (joined (map changed (upTo places))) rest)
-        ∙ (λ i. headOf (same .same-module i) (same .same-sizes i) ++ joined (map (λ q. block (same .same-sizes i) (slotsAt s′ q)) (upTo (same .same-sizes i .places))) ++ rest)
+        ∙ put-behind (p * size) count blocksFrom (head (s .module′) (s .sizes)) (joined blocks ++ rest) (changed p) (length-head (s .module′) (s .sizes))
+        ∙ ap (λ (x : List ℕ). head (s .module′) (s .sizes) ++ x)
+        (block-back (p * size) count size p blocks rest (changed p) refl c (each-block (s .sizes) (slotsAt s) (upTo places)) (omega (arith, length-numbered (blockAt (s .sizes) (slotsAt s)) places))
+        ∙ ap (λ (bs : List (List ℕ)). joined bs ++ rest) (numbered-set (blockAt (s .sizes) (slotsAt s)) changed places p (λ q n. ap (block (s .sizes)) (same .same-slots q n))))
+        ∙ sym (append-assoc (head (s .module′) (s .sizes)) (joined (map changed (upTo places))) rest)
+        ∙ (λ i. laid (same .same-module i) (same .same-sizes i) (slotsAt s′) ++ rest)
 
     -- slot i of place p, read in the store
     pub slot-read : (i from : ℕ) → i < slotCount (s .sizes) → from ≡ at + i * slotSize (s .sizes) → midOf from (slotSize (s .sizes)) l ≡ slotWords (s .sizes) (getD (slotsAt s p) i freeSlot)

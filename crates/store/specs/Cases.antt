@@ -11,7 +11,7 @@ use Rattle.rules.specs.Load.{loaded}
 use Rattle.rules.specs.Commands.{Command, step, spawnInto, deliver, runState}
 use Rattle.rules.specs.Cases.{pair, two}
 use Rattle.rules.specs.Opened.{opened}
-use Rattle.store.specs.Layout.{blocksFrom, needed, slotWords, kindNumber, numberIn, placeSlots, slotsAt, block, head, image}
+use Rattle.store.specs.Layout.{blocksFrom, needed, slotWords, kindNumber, numberIn, placeSlots, slotsAt, block, head, laid, image}
 
 -- P 2, H 3, W 16: a slot has 8 + 16 + 6 words, a block 4 slots
 abbrev pub smallSizes : Sizes
@@ -31,7 +31,7 @@ abbrev pub received : List Command
 received = step 0 ∷ spawnInto 0 1 ∷ step 0 ∷ deliver 0 0 ∷ step 1 ∷ step 1 ∷ []
 
 unfoldable pub receivedImage : List ℕ
-unfolding opened after joined fillTo slotWords kindNumber numberIn placeSlots slotsAt block head image
+unfolding opened after joined fillTo slotWords kindNumber numberIn placeSlots slotsAt block head laid image
 receivedImage = image (after received (loaded pair smallSizes))
 
 -- process 0 spawns 1 and sends it atoms 5 and 6, both are delivered, and 1 receives the first
@@ -39,7 +39,7 @@ abbrev pub oneOfTwo : List Command
 oneOfTwo = step 0 ∷ spawnInto 0 1 ∷ step 0 ∷ step 0 ∷ step 0 ∷ step 1 ∷ deliver 0 0 ∷ deliver 0 1 ∷ step 1 ∷ []
 
 unfoldable pub oneOfTwoImage : List ℕ
-unfolding opened after joined fillTo slotWords kindNumber numberIn placeSlots slotsAt block head image
+unfolding opened after joined fillTo slotWords kindNumber numberIn placeSlots slotsAt block head laid image
 oneOfTwoImage = image (after oneOfTwo (loaded two widerSizes))
 
 pub record LayoutCases : Type 0 where

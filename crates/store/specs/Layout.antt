@@ -121,16 +121,21 @@ unfoldable pub placeSlots : Option Process → List Message → List Slot
 placeSlots none queue = []
 placeSlots (some process) queue = presentSlot process queue ∷ map entrySlot (reverse (process .history))
 
-unfoldable pub slotsAt : State → ℕ → List Slot
-slotsAt s p = placeSlots (s .processes p) (s .queues p)
-
 -- the block of a place, all of its slots
 unfoldable pub block : Sizes → List Slot → List ℕ
 block sizes slots = joined (map (slotWords sizes) (fillTo (slotCount sizes) freeSlot slots))
 
-unfoldable pub head : State → List ℕ
-head s = s .sizes .places ∷ s .sizes .entries ∷ s .sizes .words ∷ length (s .module′) ∷ fillTo longestModule 0 (s .module′)
+-- the first words
+unfoldable pub head : List ℕ → Sizes → List ℕ
+head module′ sizes = sizes .places ∷ sizes .entries ∷ sizes .words ∷ length module′ ∷ fillTo longestModule 0 module′
+
+-- the words of a module, sizes, and the slots of each place
+unfoldable pub laid : List ℕ → Sizes → (ℕ → List Slot) → List ℕ
+laid module′ sizes places = head module′ sizes ++ joined (map (λ p. block sizes (places p)) (upTo (sizes .places)))
 
 -- the words of a state
+unfoldable pub slotsAt : State → ℕ → List Slot
+slotsAt s p = placeSlots (s .processes p) (s .queues p)
+
 unfoldable pub image : State → List ℕ
-image s = head s ++ joined (map (λ p. block (s .sizes) (slotsAt s p)) (upTo (s .sizes .places)))
+image s = laid (s .module′) (s .sizes) (slotsAt s)
