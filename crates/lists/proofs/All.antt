@@ -57,6 +57,24 @@ module _ {A : Type 0} (P : A → Type 0) where
   all-joined [] a = tt
   all-joined (xs ∷ xss) a = all-append xs (joined xss) (a .0) (all-joined xss (a .1))
 
+  pub all-unjoined : (xss : List (List A)) → All P (joined xss) → All (All P) xss
+  unfolding All joined
+  all-unjoined [] a = tt
+  all-unjoined (xs ∷ xss) a = (all-left xs (joined xss) a, all-unjoined xss (all-right xs (joined xss) a))
+
+  -- a part
+  pub all-take : (n : ℕ) (xs : List A) → All P xs → All P (take n xs)
+  unfolding All
+  all-take zero xs a = tt
+  all-take (suc n) [] a = tt
+  all-take (suc n) (x ∷ xs) a = (a .0, all-take n xs (a .1))
+
+  pub all-drop : (n : ℕ) (xs : List A) → All P xs → All P (drop n xs)
+  unfolding All
+  all-drop zero xs a = a
+  all-drop (suc n) [] a = tt
+  all-drop (suc n) (x ∷ xs) a = all-drop n xs (a .1)
+
   pub all-element : (xs : List A) (i : ℕ) {x : A} → All P xs → getElem? xs i ≡ some x → P x
   unfolding All
   all-element [] i a e = none-not-some e

@@ -5,7 +5,7 @@ use mathlib.Core.List.{List, [], _∷_, _++_, map, append-assoc, append-nil}
 use native.Mathlib.Nat.{suc-mul, zero-mul, zero-add, add-comm, mul-le-mul-right}
 use native.Mathlib.Decide.{ℕ-discrete}
 use native.Mathlib.Omega.{arith}
-use lib.ListN.{length, take, drop, getD, set, replicate, replicate-append-replicate, length-append, length-map, length-set, take-append-drop, drop-of-length-le, List·getD-append}
+use lib.ListN.{length, take, drop, getD, set, replicate, replicate-append-replicate, length-append, length-drop, length-map, length-set, take-append-drop, drop-of-length-le, List·getD-append}
 use lib.Seq.{take-at, drop-at, take-append-add, drop-append-add, getD-at, getD-set-same, getD-set-other, ext-getD, length-take-le, take-nil, take-take, take-add, drop-drop}
 use borrow.Rule.Slice.PartMut.{midOf, putMid}
 use Rattle.lists.specs.Lists.{All, joined, upTo}
@@ -108,6 +108,29 @@ module _ {A : Type 0} where
   -- the same where the number of blocks is computed otherwise
   pub chop-is : (n size : ℕ) (bs : List (List A)) (rest : List A) → length bs ≡ n → Each size bs → chop n size (joined bs ++ rest) ≡ bs
   chop-is n size bs rest c e = rw (← c) (chop-joined size bs rest e)
+
+  -- any list is its first blocks and what is left
+  pub chop-again : (n size : ℕ) (l : List A) → joined (chop n size l) ++ drop (n * size) l ≡ l
+  unfolding chop joined
+  chop-again zero size l = ap (λ (k : ℕ). drop k l) (zero-mul size)
+  chop-again (suc n) size l =
+      append-assoc (take size l) (joined (chop n size (drop size l))) (drop (suc n * size) l)
+      ∙ ap (λ (r : List A). take size l ++ (joined (chop n size (drop size l)) ++ r)) (ap (λ (k : ℕ). drop k l) (suc-mul n size ∙ add-comm (n * size) size) ∙ sym (drop-drop (n * size) size l))
+      ∙ ap (λ (r : List A). take size l ++ r) (chop-again n size (drop size l)) ∙ take-append-drop size l
+
+  pub each-chop : (n size : ℕ) (l : List A) → n * size ≤ length l → Each size (chop n size l)
+  unfolding chop All
+  each-chop zero size l h = tt
+  each-chop (suc n) size l h = (length-take-le size l (omega (arith, suc-mul n size)), each-chop n size (drop size l) (omega (arith, suc-mul n size, length-drop size l)))
+
+  -- block i of a list
+  pub chop-at : (n size i : ℕ) (l : List A) → i < n → getD (chop n size l) i [] ≡ midOf (i * size) size l
+  unfolding chop
+  chop-at zero size i l h = absurd (omega arith)
+  chop-at (suc n) size zero l h = ap (λ (k : ℕ). take size (drop k l)) (sym (zero-mul size))
+  chop-at (suc n) size (suc i) l h =
+      chop-at n size i (drop size l) (omega arith)
+      ∙ ap (take size) (drop-drop (i * size) size l ∙ ap (λ (k : ℕ). drop k l) (add-comm size (i * size) ∙ sym (suc-mul i size)))
 
 -- a block for each number below n
 module _ {A : Type 0} (f : ℕ → List A) where

@@ -27,6 +27,29 @@ module _ {A : Type 0} where
   all-fill P (suc n) z [] p a = (p, all-fill P n z [] p tt)
   all-fill P (suc n) z (x ∷ xs) p a = (a .0, all-fill P n z xs p (a .1))
 
+  pub all-unfill : (P : A → Type 0) (n : ℕ) (z : A) (xs : List A) → length xs ≤ n → All P (fillTo n z xs) → All P xs
+  unfolding fillTo All
+  all-unfill P n z [] h a = tt
+  all-unfill P zero z (x ∷ xs) h a = absurd (omega arith)
+  all-unfill P (suc n) z (x ∷ xs) h a = (a .0, all-unfill P n z xs (omega arith) (a .1))
+
+  -- a list of n elements that are z from the k-th on is its first k elements filled up
+  pub fill-again : (n k : ℕ) (z : A) (xs : List A) → length xs ≡ n → All (λ x. x ≡ z) (drop k xs) → fillTo n z (take k xs) ≡ xs
+  unfolding fillTo All
+  fill-again zero k z [] e a = refl
+  fill-again zero k z (x ∷ xs) e a = absurd (omega arith)
+  fill-again (suc n) k z [] e a = absurd (omega arith)
+  fill-again (suc n) zero z (x ∷ xs) e a = λ i. sym (a .0) i ∷ fill-again n zero z xs (omega arith) (a .1) i
+  fill-again (suc n) (suc k) z (x ∷ xs) e a = ap (λ (r : List A). x ∷ r) (fill-again n k z xs (omega arith) a)
+
+  -- behind what was filled up there is z alone
+  pub behind-fill : (n : ℕ) (z : A) (xs : List A) → All (λ x. x ≡ z) (drop (length xs) (fillTo n z xs))
+  unfolding fillTo All
+  behind-fill zero z [] = tt
+  behind-fill zero z (x ∷ xs) = tt
+  behind-fill (suc n) z [] = (refl, behind-fill n z [])
+  behind-fill (suc n) z (x ∷ xs) = behind-fill n z xs
+
   -- nothing filled up is z alone
   pub fill-none : (n : ℕ) (z : A) → fillTo n z [] ≡ replicate n z
   unfolding fillTo

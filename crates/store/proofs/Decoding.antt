@@ -57,7 +57,7 @@ module _ (s : State) (x : Storable s) where
   entry-fits e k = record { control-fits = k .before-fits; names-fit = omega (arith, length-map (queueBefore (asRec (e .kind))) nameWord, k .queue .fits) }
 
   -- the slots of a place fit into its block
-  slots-few : (p : ℕ) → length (slotsAt s p) ≤ slotCount (s .sizes)
+  pub slots-few : (p : ℕ) → length (slotsAt s p) ≤ slotCount (s .sizes)
   unfolding slotsAt placeSlots historyAt historyOf
   slots-few p = go (s .processes p) (s .queues p) (x .history-fits p)
     where
@@ -65,7 +65,7 @@ module _ (s : State) (x : Storable s) where
       go none queue h = omega arith
       go (some process) queue h = omega (arith, length-map (reverse (process .history)) entrySlot, length-reverse (process .history))
 
-  slots-used : (p : ℕ) → All Used (slotsAt s p)
+  pub slots-used : (p : ℕ) → All Used (slotsAt s p)
   unfolding slotsAt placeSlots All
   slots-used p = go (s .processes p) (s .queues p)
     where
@@ -73,7 +73,7 @@ module _ (s : State) (x : Storable s) where
       go none queue = tt
       go (some process) queue = ((λ e. omega arith), all-map Used entrySlot (reverse (process .history)) (all-any (λ e. entry-used (e .kind)) (reverse (process .history))))
 
-  slots-fit : (p : ℕ) → All (FitsSlot (s .sizes)) (slotsAt s p)
+  pub slots-fit : (p : ℕ) → All (FitsSlot (s .sizes)) (slotsAt s p)
   unfolding slotsAt placeSlots historyAt historyOf All
   slots-fit p = go (s .processes p) (s .queues p) (x .control-fits p) (x .queue p) (x .entries p)
     where
@@ -85,7 +85,7 @@ module _ (s : State) (x : Storable s) where
         all-map (FitsSlot (s .sizes)) entrySlot (reverse (process .history)) (all-reverse (λ e. FitsSlot (s .sizes) (entrySlot e)) (process .history) (all-so entry-fits (process .history) a)),
       )
 
-  places-read : (rest : List ℕ) → readPlace (s .sizes) (image s ++ rest) ≡ slotsAt s
+  pub places-read : (rest : List ℕ) → readPlace (s .sizes) (image s ++ rest) ≡ slotsAt s
   unfolding image slotsAt placeSlots
   places-read rest = fun-ext λ p. go p (true-or-false (ltb p (s .sizes .places)))
     where

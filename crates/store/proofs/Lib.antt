@@ -16,3 +16,6 @@ pub mod SlotHistories
 pub mod SlotNames
 pub mod SlotsSound
 pub mod LaidOut
+pub mod StoredWords
+pub mod WellFormed
+pub mod Tested

@@ -4,7 +4,7 @@ use mathlib.Core.Path.{_≡_, refl, sym, _∙_, ap}
 use mathlib.Core.List.{List, [], _∷_, _++_, map, append-assoc}
 use native.Mathlib.Omega.{arith}
 use lib.ListN.{length, take, drop, getD, set, replicate, replicate-append-replicate}
-use lib.Seq.{drop-at, drop-drop, take-append-le}
+use lib.Seq.{take-all, take-at, drop-at, drop-drop, take-append-le}
 use borrow.Rule.Slice.PartMut.{midOf, putMid}
 use Rattle.lists.specs.Lists.{joined}
 use Rattle.lists.specs.Fill.{fillTo}
@@ -61,6 +61,19 @@ module _ (sizes : Sizes) (x : Slot) where
       let names = fillTo (namesRoom sizes) 0 (x .names) in
       ap (take count) (ap (λ (n : ℕ). drop n (slotFront x ++ (control ++ names))) a ∙ sym (drop-drop (sizes .words) slotHead (slotFront x ++ (control ++ names))) ∙ drop-at control names (sizes .words) (length-fill (sizes .words) 0 (x .control)))
       ∙ ap (λ (n : ℕ). take n names) e ∙ take-fill (namesRoom sizes) 0 (x .names) h
+
+  -- the room of the control and the room of the names, zeros and all
+  pub control-room : midOf slotHead (sizes .words) (slotWords sizes x) ≡ fillTo (sizes .words) 0 (x .control)
+  unfolding slotWords
+  control-room = take-at (fillTo (sizes .words) 0 (x .control)) (fillTo (namesRoom sizes) 0 (x .names)) (sizes .words) (length-fill (sizes .words) 0 (x .control))
+
+  pub names-room : midOf (slotHead + sizes .words) (namesRoom sizes) (slotWords sizes x) ≡ fillTo (namesRoom sizes) 0 (x .names)
+  unfolding slotWords
+  names-room =
+      let control = fillTo (sizes .words) 0 (x .control) in
+      let names = fillTo (namesRoom sizes) 0 (x .names) in
+      ap (take (namesRoom sizes)) (sym (drop-drop (sizes .words) slotHead (slotFront x ++ (control ++ names))) ∙ drop-at control names (sizes .words) (length-fill (sizes .words) 0 (x .control)))
+      ∙ take-all (namesRoom sizes) names (omega (arith, length-fill (namesRoom sizes) 0 (x .names)))
 
   -- a slot written in three runs: its front, its control, its names
   pub slot-made : (l a b c : List ℕ) → length l ≡ slotSize sizes → a ≡ putMid 0 slotHead l (slotFront x) → b ≡ putMid slotHead (sizes .words) a (fillTo (sizes .words) 0 (x .control))

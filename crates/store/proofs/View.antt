@@ -3,9 +3,12 @@ use Prim.Native.Nat.{ℕ, zero, suc, _+_, _*_, _≤_, _<_}
 use mathlib.Core.Path.{_≡_, refl, sym, _∙_, ap}
 use mathlib.Core.List.{List, [], _∷_, _++_, map, append-assoc}
 use native.Mathlib.Omega.{arith}
-use lib.ListN.{length, getD, length-append}
+use lib.ListN.{length, take, getD, length-append}
+use lib.Seq.{take-at}
 use borrow.Rule.Slice.PartMut.{midOf, putMid}
 use Rattle.lists.specs.Lists.{upTo, joined}
+use Rattle.lists.specs.Fill.{fillTo}
+use Rattle.lists.proofs.Fill.{length-fill}
 use Rattle.lists.proofs.Blocks.{block-in, block-lent, block-back, length-numbered, numbered-at, numbered-set, mid-behind, put-behind, mid-mid}
 use Rattle.term.specs.Module.{longestModule}
 use Rattle.rules.specs.State.{State}
@@ -41,6 +44,16 @@ module _ (s : State) (rest l : List ℕ) (e : l ≡ image s ++ rest) where
   pub module-lent : (count : ℕ) → count ≡ length (s .module′) → length (s .module′) ≤ longestModule → midOf headWords count l ≡ s .module′
   unfolding readModule image
   module-lent count c h = ap (λ (n : ℕ). midOf headWords n l) (c ∙ sym module-length-word) ∙ ap readModule e ∙ read-module (s .module′) (s .sizes) (slotsAt s) rest h
+
+  -- its room, zeros and all
+  pub module-room : midOf headWords longestModule l ≡ fillTo longestModule 0 (s .module′)
+  unfolding image laid head
+  module-room =
+      let filled = fillTo longestModule 0 (s .module′) in
+      let blocks′ = joined (map (blockAt (s .sizes) (slotsAt s)) (upTo (s .sizes .places))) in
+      ap (midOf headWords longestModule) e
+      ∙ ap (take longestModule) (append-assoc filled blocks′ rest)
+      ∙ take-at filled (blocks′ ++ rest) longestModule (length-fill longestModule 0 (s .module′))
 
   pub long-enough : needed (s .sizes) ≤ length l
   long-enough = omega (arith, ap length e, length-append (image s) rest, length-image s)

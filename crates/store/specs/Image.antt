@@ -49,3 +49,5 @@ pub record ImageLaws : Type 0 where
   pub one-state : (s s′ : State) (rest rest′ : List ℕ) → Sound s → Sound s′ → image s ++ rest ≡ image s′ ++ rest′ → (s ≡ s′) × (rest ≡ rest′)
   -- it is made of 32-bit words, where the module and the controls are
   pub image-words : (s : State) → Sound s → Worded s → All IsWord (image s)
+  -- which they are wherever the image stands in a store
+  pub stored-words : (s : State) (rest : List ℕ) → Sound s → All IsWord (image s ++ rest) → Worded s
