@@ -1,10 +1,10 @@
 -- Reading a state off words: off an image it is the image's state.
-use Prim.Native.Nat.{ℕ, zero, suc, _+_, _*_, _≤_, _<_}
+use Prim.Native.Nat.{ℕ, _≤_}
 use mathlib.Core.Path.{_≡_, refl, sym, _∙_, ap, fun-ext}
 use mathlib.Core.Logic.{_⊎_, inl, inr}
 use mathlib.Core.Bool.{true, false}
 use mathlib.Core.Option.{Option, none, some}
-use mathlib.Core.List.{List, [], _∷_, _++_, map, reverse}
+use mathlib.Core.List.{List, [], _++_, reverse}
 use native.Mathlib.Omega.{arith}
 use lib.Dec.{ltb}
 use lib.ListN.{length, length-map, length-reverse, drop}
@@ -15,10 +15,10 @@ use Rattle.lists.proofs.All.{all-so, all-any, all-map, all-reverse}
 use Rattle.term.specs.Module.{longestModule}
 use Rattle.rules.specs.State.{Sizes, Message, Kind, seq, send, rec, spawn, self, check, asRec, Entry, Process, State, historyOf, historyAt}
 use Rattle.rules.specs.Depends.{queueBefore}
-use Rattle.store.specs.Layout.{slotCount, namesRoom, needed, kindFree, nameWord, Slot, kindNumber, entrySlot, presentSlot, placeSlots, slotsAt, image}
+use Rattle.store.specs.Layout.{slotCount, needed, kindFree, nameWord, Slot, kindNumber, entrySlot, placeSlots, slotsAt, image}
 use Rattle.store.proofs.Lengths.{length-image}
 use Rattle.store.proofs.Reading.{FitsSlot, Used, readSizes, readModule, readPlace, read-sizes, read-module, read-place, read-past}
-use Rattle.store.proofs.Restoring.{Kept, KeptQueue, KeptEntry, readProcess, readQueue, process-read, queue-at-read}
+use Rattle.store.proofs.Restoring.{KeptQueue, KeptEntry, readProcess, readQueue, process-read, queue-at-read}
 
 -- the state of slots, and of words
 unfoldable pub restored : (module′ : List ℕ) → Sizes → (ℕ → List Slot) → State

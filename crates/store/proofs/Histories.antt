@@ -2,15 +2,15 @@
 use Prim.Native.Nat.{ℕ, suc, _≤_, _<_}
 use mathlib.Core.Path.{_≡_, sym, _∙_, subst}
 use mathlib.Core.Logic.{_⊎_, inl, inr}
-use mathlib.Core.Bool.{Bool, true, false, cond}
+use mathlib.Core.Bool.{true, false}
 use mathlib.Core.Option.{Option, none, some}
-use mathlib.Core.List.{List, [], _∷_, _++_}
+use mathlib.Core.List.{List, [], _∷_}
 use native.Mathlib.Omega.{arith}
 use lib.Dec.{eqb}
 use lib.ListN.{length}
 use Rattle.lists.specs.Lists.{All}
 use Rattle.lists.proofs.Tests.{none-not-some, some-injective, true-or-false, eqb-true, eqb-same, eqb-apart, cond-true, cond-false}
-use Rattle.rules.specs.State.{Letter, letter, asSend, Entry, entryAt}
+use Rattle.rules.specs.State.{Letter, asSend, Entry, entryAt}
 use Rattle.rules.specs.Flight.{countLetter, sends, letterOr, sent}
 
 -- ---- entries by number

@@ -1,10 +1,10 @@
 -- Images are made of 32-bit words, where the module and the controls are.
-use Prim.Native.Nat.{ℕ, zero, suc, _+_, _*_, _≤_, _<_}
-use mathlib.Core.Path.{_≡_, refl, sym, _∙_, ap}
-use mathlib.Core.Logic.{_⊎_, inl, inr}
-use mathlib.Core.Bool.{true, false}
+use Prim.Native.Nat.{ℕ, _≤_, _<_}
+use mathlib.Core.Path.{_≡_, refl, ap}
+use mathlib.Core.Logic.{inl, inr}
+use mathlib.Core.Bool.{true}
 use mathlib.Core.Option.{Option, none, some}
-use mathlib.Core.List.{List, [], _∷_, _++_, map, reverse}
+use mathlib.Core.List.{List, _∷_, map, reverse}
 use native.Mathlib.Nat.{mul-le-mul}
 use native.Mathlib.Omega.{arith}
 use lib.Dec.{ltb}
@@ -16,13 +16,12 @@ use Rattle.lists.proofs.All.{all-so, all-both, all-any, all-map, all-append, al
 use Rattle.lists.proofs.Fill.{all-fill}
 use Rattle.term.specs.Module.{longestModule}
 use Rattle.rules.specs.State.{Sizes, Message, Kind, seq, send, rec, spawn, self, check, asRec, asSpawn, asCheck, Entry, Process, State, historyOf, historyAt, entryAt, inPool}
-use Rattle.rules.specs.Sound.{SpawnedBy, SentTo, Sound}
+use Rattle.rules.specs.Sound.{SentTo, Sound}
 use Rattle.rules.specs.Depends.{queueBefore}
-use Rattle.store.specs.Layout.{namesRoom, slotCount, nameBase, nameWord, Slot, freeSlot, slotWords, kindNumber, numberIn, entrySlot, presentSlot, placeSlots, slotsAt, block, head, laid, image}
+use Rattle.store.specs.Layout.{namesRoom, slotCount, nameWord, Slot, freeSlot, slotWords, kindNumber, numberIn, entrySlot, placeSlots, slotsAt, block, head, laid, image}
 use Rattle.store.specs.Image.{IsWord, Worded}
 use Rattle.store.proofs.Lengths.{blockAt}
 use Rattle.store.proofs.Restoring.{Kept, KeptQueue, KeptEntry}
-use Rattle.store.proofs.Decoding.{Storable}
 use Rattle.store.proofs.Histories.{all-entries}
 use Rattle.store.proofs.SoundStates.{SizesIn, sizes-in, numbered, storable}
 

@@ -1,16 +1,16 @@
 -- Words are an image exactly where they are laid out of sound slots.
-use Prim.Native.Nat.{ℕ, _+_, _≤_, _<_}
+use Prim.Native.Nat.{ℕ}
 use mathlib.Core.Path.{_≡_, refl, sym, _∙_, ap, fun-ext, subst}
 use mathlib.Core.Option.{Option, none, some}
-use mathlib.Core.List.{List, [], _∷_, _++_, map, reverse, tail, nil≢cons, head-eq-of-cons-eq}
+use mathlib.Core.List.{List, _∷_, _++_, map, reverse, tail, nil≢cons, head-eq-of-cons-eq}
 use native.Mathlib.Omega.{arith}
-use lib.ListN.{length, length-append, length-map}
+use lib.ListN.{length-append, length-map}
 use Rattle.lists.specs.Lists.{All}
 use Rattle.lists.proofs.All.{all-map, all-reverse}
 use Rattle.rules.specs.State.{Sizes, Message, Kind, seq, send, rec, spawn, self, check, asSend, asRec, asCheck, Entry, Process, State, historyOf, historyAt, entryAt}
-use Rattle.rules.specs.Sound.{AboutToSend, Sound}
+use Rattle.rules.specs.Sound.{Sound}
 use Rattle.rules.specs.Depends.{queueBefore}
-use Rattle.store.specs.Layout.{nameWord, Slot, kindNumber, numberIn, entrySlot, presentSlot, placeSlots, slotsAt, laid, image}
+use Rattle.store.specs.Layout.{nameWord, Slot, kindNumber, numberIn, entrySlot, placeSlots, slotsAt, laid, image}
 use Rattle.store.specs.Image.{IsImage}
 use Rattle.store.proofs.Decoding.{restored, restored-same}
 use Rattle.store.proofs.Histories.{all-entries}

@@ -1,19 +1,19 @@
 -- How long slots, blocks and images are.
-use Prim.Native.Nat.{ℕ, suc, _+_, _*_, _≤_}
-use mathlib.Core.Path.{_≡_, refl, sym, _∙_, ap}
-use mathlib.Core.List.{List, [], _∷_, _++_, map}
+use Prim.Native.Nat.{ℕ, _+_, _*_, _≤_}
+use mathlib.Core.Path.{_≡_, _∙_, ap}
+use mathlib.Core.List.{List, map}
 use native.Mathlib.Nat.{mul-le-mul}
 use native.Mathlib.Omega.{arith}
 use lib.ListN.{length, length-append, length-map}
-use Rattle.lists.specs.Lists.{All, upTo, joined}
+use Rattle.lists.specs.Lists.{upTo, joined}
 use Rattle.lists.specs.Fill.{fillTo}
 use Rattle.lists.proofs.All.{all-any, all-map}
 use Rattle.lists.proofs.Fill.{length-fill}
-use Rattle.lists.proofs.Blocks.{Each, length-joined, length-upTo, length-numbered}
+use Rattle.lists.proofs.Blocks.{Each, length-joined, length-numbered}
 use Rattle.term.specs.Module.{longestModule}
 use Rattle.rules.specs.State.{Sizes, State}
 use Rattle.rules.specs.Cases.{benchSizes}
-use Rattle.store.specs.Layout.{headWords, blocksFrom, slotHead, namesRoom, slotSize, slotCount, blockSize, needed, Slot, freeSlot, slotWords, slotsAt, block, head, laid, image}
+use Rattle.store.specs.Layout.{blocksFrom, namesRoom, slotSize, slotCount, blockSize, needed, Slot, freeSlot, slotWords, slotsAt, block, head, laid, image}
 use Rattle.store.specs.Image.{mostNeeded, benchStore}
 
 pub length-slot : (sizes : Sizes) (x : Slot) → length (slotWords sizes x) ≡ slotSize sizes

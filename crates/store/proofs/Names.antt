@@ -1,15 +1,15 @@
 -- Names of messages as numbers: messages whose names are all different, by P senders of at most H sends each, are P·H at most.
-use Prim.Native.Nat.{ℕ, zero, suc, _+_, _*_, _≤_, _<_}
+use Prim.Native.Nat.{ℕ, _+_, _*_, _≤_, _<_}
 use mathlib.Core.Path.{_≡_, refl, sym, _∙_, ap}
 use mathlib.Core.Logic.{_⊎_, inl, inr}
-use mathlib.Core.Bool.{Bool, true, false, not, _&&_, _||_}
-use mathlib.Core.List.{List, [], _∷_, _++_, map}
+use mathlib.Core.Bool.{true, false, not}
+use mathlib.Core.List.{List, [], _∷_, map}
 use native.Mathlib.Decide.{ℕ-discrete}
 use native.Mathlib.Omega.{arith}
-use lib.Dec.{eqb, ltb}
+use lib.Dec.{ltb}
 use lib.ListN.{length, length-map}
 use Rattle.lists.specs.Lists.{All, any}
-use Rattle.lists.proofs.Tests.{true-or-false, true-not-false, eqb-true, eqb-of, eqb-apart, ltb-true, ltb-false, and-left, and-right, and-of, or-false-left, or-false-right, not-true}
+use Rattle.lists.proofs.Tests.{true-or-false, true-not-false, eqb-of, ltb-true, ltb-false, and-left, and-right, and-of, or-false-left, or-false-right, not-true}
 use Rattle.lists.proofs.Blocks.{block-in}
 use Rattle.lists.proofs.Counts.{occurs, occurs-head, occurs-other, few-below}
 use Rattle.rules.specs.State.{Message, isNamed}

@@ -1,22 +1,21 @@
 -- Reading a state off its slots: a message's value is what its sender's entry is about to send, a rec's parts stand in its queue before.
-use Prim.Native.Nat.{ℕ, zero, suc, _+_, _*_, _/_, _%_, _≤_, _<_}
-use mathlib.Core.Path.{_≡_, refl, sym, _∙_, ap, fun-ext}
+use Prim.Native.Nat.{ℕ, _/_, _%_, _≤_, _<_}
+use mathlib.Core.Path.{_≡_, refl, sym, _∙_, ap}
 use mathlib.Core.Bool.{cond}
 use mathlib.Core.Option.{Option, none, some}
 use mathlib.Core.List.{List, [], _∷_, _++_, map, reverse, reverse-reverse, tail}
 use native.Mathlib.Omega.{arith}
 use lib.Dec.{eqb}
-use lib.ListN.{length, take, drop, length-map}
+use lib.ListN.{length, take, drop}
 use lib.Seq.{take-append-seam, drop-append-seam}
 use Rattle.lists.specs.Lists.{All}
-use Rattle.lists.proofs.Tests.{none-not-some}
 use Rattle.lists.proofs.All.{all-so, all-any, map-same, map-reverse, maps-after}
 use Rattle.machine.specs.Work.{Work, finished, stuck, toSeq, toSend, toReceive, toSpawn, toSelf, toCheck, work}
-use Rattle.rules.specs.State.{Sizes, Message, Kind, seq, send, rec, spawn, self, check, Letter, letter, Taking, taking, asSend, asRec, Entry, Process, State, historyOf, historyAt}
+use Rattle.rules.specs.State.{Message, Kind, seq, send, rec, spawn, self, check, Letter, letter, asSend, asRec, Entry, Process, State, historyOf, historyAt}
 use Rattle.rules.specs.Flight.{countLetter, sends, letterOr, sent}
 use Rattle.rules.specs.Sound.{AboutToSend}
 use Rattle.rules.specs.Depends.{queueBefore}
-use Rattle.store.specs.Layout.{namesRoom, nameBase, nameWord, kindSeq, kindSend, kindRec, kindSpawn, kindSelf, kindCheck, Slot, kindNumber, numberIn, entrySlot, presentSlot, placeSlots, slotsAt}
+use Rattle.store.specs.Layout.{namesRoom, nameBase, nameWord, kindSend, kindRec, kindSpawn, kindSelf, kindCheck, Slot, kindNumber, numberIn, entrySlot, placeSlots, slotsAt}
 
 -- ---- reading
 

@@ -1,27 +1,25 @@
 -- The state that is read of slots: its pool, histories, queues, sends, what its recs took, and how its queues flow.
-use Prim.Native.Nat.{ℕ, zero, suc, _+_, _*_, _/_, _%_, _≤_, _<_}
+use Prim.Native.Nat.{ℕ, zero, suc, _<_}
 use mathlib.Core.Path.{_≡_, refl, sym, _∙_, ap, subst}
-use mathlib.Core.Logic.{_⊎_, inl, inr}
 use mathlib.Core.Bool.{Bool, true, false, cond}
 use mathlib.Core.Option.{Option, none, some}
 use mathlib.Core.List.{List, [], _∷_, _++_, map, map-append, reverse, reverse-cons, tail}
-use native.Mathlib.Decide.{ℕ-discrete}
 use native.Mathlib.Omega.{arith}
 use lib.Dec.{eqb, eqb·suc-suc}
-use lib.ListN.{length, take, drop, getD, getElem?, length-append, length-map, length-reverse}
-use Rattle.lists.specs.Lists.{All, any}
-use Rattle.lists.proofs.Tests.{none-not-some, some-injective, true-or-false, true-not-false, eqb-of, eqb-apart, cond-false}
-use Rattle.lists.proofs.All.{all-any, all-reverse, map-take, map-drop}
+use lib.ListN.{length, take, drop, getElem?, length-append}
+use Rattle.lists.specs.Lists.{All}
+use Rattle.lists.proofs.Tests.{eqb-of, eqb-apart, cond-false}
+use Rattle.lists.proofs.All.{all-any, map-take, map-drop}
 use Rattle.machine.specs.Work.{work}
-use Rattle.rules.specs.State.{Sizes, Message, Kind, seq, send, rec, spawn, self, check, Letter, letter, Taking, taking, asSend, asRec, asSpawn, asCheck, Entry, Process, State, historyOf, historyAt, entryAt, isProcess, inPool, isNamed}
-use Rattle.rules.specs.Flight.{sends, sent, alsoTaken, taken}
-use Rattle.rules.specs.Sound.{SoundControl, AboutToSend, SpawnedBy, SentTo, Prefix, Flows, distinct, Sound}
-use Rattle.store.specs.Layout.{nameBase, nameWord, kindSeq, kindSend, kindRec, kindSpawn, kindSelf, kindCheck, Slot}
+use Rattle.rules.specs.State.{Sizes, Message, Kind, seq, send, spawn, self, check, Taking, taking, asSend, asRec, Entry, State, historyOf, historyAt, entryAt, isProcess, inPool}
+use Rattle.rules.specs.Flight.{sent, alsoTaken, taken}
+use Rattle.rules.specs.Sound.{Prefix, Flows}
+use Rattle.store.specs.Layout.{nameWord, kindSend, kindRec, kindSpawn, kindSelf, kindCheck, Slot}
 use Rattle.store.proofs.Restoring.{sendKind, recOf, readSend, readSends, readMessage, readKind, readEntry, readProcess, readQueue, alike-sent}
 use Rattle.store.proofs.Decoding.{restored}
 use Rattle.store.proofs.SoundStates.{FlowsBy}
-use Rattle.store.proofs.SlotViews.{EntryShape, seq-slot, send-slot, rec-slot, spawn-slot, self-slot, check-slot, PresentShape, messagesOf, olderOf, takenOf, newerOf, names-read, queue-split, read-seq, read-send, read-rec, read-spawn, read-self, read-check}
-use Rattle.store.proofs.SoundSlots.{isLive, namesIn, takenName, leftNames, takenIf, takenNames, Begins, SlotFlows, Passes, newestFirst, sentBy, arrived, SaidTo, SpawnSlot, Shaped, SoundSlots}
+use Rattle.store.proofs.SlotViews.{EntryShape, seq-slot, send-slot, rec-slot, spawn-slot, self-slot, check-slot, messagesOf, olderOf, takenOf, newerOf, names-read, queue-split, read-seq, read-send, read-rec, read-spawn, read-self, read-check}
+use Rattle.store.proofs.SoundSlots.{isLive, namesIn, takenName, leftNames, takenIf, takenNames, Begins, SlotFlows, newestFirst, sentBy}
 
 -- ---- the entry of a number in a history read of slots, oldest first
 

@@ -1,24 +1,23 @@
 -- Names in slots: messages read of names have different names where the names differ, and were sent where the names say so.
-use Prim.Native.Nat.{ℕ, zero, suc, _+_, _*_, _/_, _%_, _≤_, _<_}
+use Prim.Native.Nat.{ℕ, _/_, _%_, _≤_}
 use mathlib.Core.Path.{_≡_, refl, sym, _∙_, ap}
-use mathlib.Core.Logic.{_⊎_, inl, inr}
+use mathlib.Core.Logic.{inl, inr}
 use mathlib.Core.Bool.{Bool, true, false, not, _&&_, _||_}
-use mathlib.Core.Option.{Option, none, some}
-use mathlib.Core.List.{List, [], _∷_, _++_, map}
+use mathlib.Core.Option.{Option, some}
+use mathlib.Core.List.{List, [], _∷_}
 use native.Mathlib.Decide.{ℕ-discrete}
 use native.Mathlib.Omega.{arith}
 use lib.Dec.{eqb}
 use Rattle.lists.specs.Lists.{All, any}
-use Rattle.lists.proofs.Tests.{true-or-false, true-not-false, eqb-true, eqb-of, eqb-apart, and-left, and-right, and-of, or-false, or-false-left, or-false-right, not-true}
+use Rattle.lists.proofs.Tests.{true-or-false, eqb-true, eqb-of, eqb-apart, and-left, and-right, and-of, or-false, or-false-left, or-false-right, not-true}
 use Rattle.lists.proofs.All.{all-so, all-map, all-unmap}
 use Rattle.lists.proofs.Counts.{occurs, oneIf, occurs-head, occurs-other, occurs-more}
-use Rattle.rules.specs.State.{Sizes, Message, Letter, letter, State, historyAt, isNamed}
-use Rattle.rules.specs.Flight.{sent}
+use Rattle.rules.specs.State.{Sizes, Letter, letter, isNamed}
 use Rattle.rules.specs.Sound.{SentTo, distinct}
 use Rattle.store.specs.Layout.{nameBase, Slot}
 use Rattle.store.proofs.Restoring.{valueOf, readMessage}
 use Rattle.store.proofs.SlotViews.{messagesOf}
-use Rattle.store.proofs.SoundSlots.{sentBy, SaidTo}
+use Rattle.store.proofs.SoundSlots.{SaidTo}
 use Rattle.store.proofs.SlotHistories.{readState, sent-read}
 
 module _ (module′ : List ℕ) (places : ℕ → List Slot) where

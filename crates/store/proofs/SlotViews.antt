@@ -1,21 +1,17 @@
 -- Slots as they are read: the kind of an entry by its slot's kind, and the shapes that slots of entries have.
-use Prim.Native.Nat.{ℕ, zero, suc, _+_, _*_, _/_, _%_, _≤_, _<_}
+use Prim.Native.Nat.{ℕ, suc, _≤_, _<_}
 use mathlib.Core.Path.{_≡_, refl, sym, _∙_, ap}
-use mathlib.Core.Bool.{Bool, true, false, cond}
-use mathlib.Core.Option.{Option, none, some}
 use mathlib.Core.List.{List, [], _∷_, _++_, map, reverse, reverse-reverse, tail}
 use native.Mathlib.Omega.{arith}
-use lib.Dec.{eqb}
 use lib.ListN.{length, take, drop, getD, length-map, take-append-drop, List·getD-map}
 use lib.Seq.{drop-cons, length-take-le}
 use Rattle.lists.specs.Lists.{All}
-use Rattle.lists.proofs.Tests.{none-not-some}
 use Rattle.lists.proofs.All.{all-so, all-any, map-same, map-reverse, maps-after}
-use Rattle.machine.specs.Work.{Work, toSend, work}
-use Rattle.rules.specs.State.{Message, Kind, seq, send, rec, spawn, self, check, Letter, letter, Taking, taking, asSend, asRec, asSpawn, asCheck, Entry, Process}
+use Rattle.machine.specs.Work.{toSend, work}
+use Rattle.rules.specs.State.{Message, Kind, seq, send, rec, spawn, self, check, asRec, Entry}
 use Rattle.rules.specs.Depends.{queueBefore}
-use Rattle.store.specs.Layout.{nameBase, nameWord, kindSeq, kindSend, kindRec, kindSpawn, kindSelf, kindCheck, kindLive, Slot, kindNumber, numberIn, entrySlot, presentSlot, placeSlots}
-use Rattle.store.proofs.Restoring.{sendKind, recOf, readSend, readMessage, readKind, readEntry, readProcess, readQueue}
+use Rattle.store.specs.Layout.{nameWord, kindSeq, kindSend, kindRec, kindSpawn, kindSelf, kindCheck, kindLive, Slot, kindNumber, numberIn, entrySlot, presentSlot, placeSlots}
+use Rattle.store.proofs.Restoring.{sendKind, recOf, readMessage, readKind, readEntry, readProcess, readQueue}
 
 -- what the slot of an entry may be
 pub data EntryShape (module′ : List ℕ) (x : Slot) : Type 0 where

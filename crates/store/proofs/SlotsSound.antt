@@ -1,7 +1,7 @@
 -- Soundness said of slots is soundness of the state that is read of them, and the other way round.
-use Prim.Native.Nat.{ℕ, zero, suc, _≤_, _<_}
+use Prim.Native.Nat.{ℕ, _≤_}
 use mathlib.Core.Path.{_≡_, refl, sym, _∙_, ap, subst, subst₂}
-use mathlib.Core.Bool.{Bool, true, false}
+use mathlib.Core.Bool.{false}
 use mathlib.Core.Option.{Option, none, some}
 use mathlib.Core.List.{List, [], _∷_, _++_, map, map-append, reverse, tail}
 use native.Mathlib.Omega.{arith}
@@ -10,15 +10,15 @@ use Rattle.lists.specs.Lists.{All}
 use Rattle.lists.proofs.Tests.{none-not-some, some-injective, true-not-false}
 use Rattle.lists.proofs.All.{all-so, all-map, all-reverse, all-element, all-elements}
 use Rattle.machine.specs.Work.{toSend}
-use Rattle.rules.specs.State.{Sizes, Message, Kind, seq, send, rec, spawn, self, check, Letter, letter, asSend, asSpawn, asCheck, Entry, Process, State, historyAt, entryAt, inPool}
-use Rattle.rules.specs.Flight.{sent, taken}
+use Rattle.rules.specs.State.{Sizes, Message, letter, asSend, asSpawn, asCheck, Entry, Process, State, historyAt, entryAt, inPool}
+use Rattle.rules.specs.Flight.{taken}
 use Rattle.rules.specs.Sound.{SoundControl, AboutToSend, SpawnedBy, SentTo, Flows, distinct, Sound}
 use Rattle.store.specs.Layout.{kindSpawn, Slot}
 use Rattle.store.proofs.Restoring.{readMessage, readEntry, readProcess}
 use Rattle.store.proofs.Decoding.{restored}
 use Rattle.store.proofs.Histories.{all-entry}
-use Rattle.store.proofs.SlotViews.{EntryShape, seq-slot, send-slot, rec-slot, spawn-slot, self-slot, check-slot, PresentShape, messagesOf, olderOf, takenOf, newerOf, read-seq, read-send, read-rec, read-spawn, read-self, read-check}
-use Rattle.store.proofs.SoundSlots.{isLive, namesIn, takenNames, SlotFlows, Passes, newestFirst, sentBy, arrived, SaidTo, SpawnSlot, Shaped, SoundSlots}
+use Rattle.store.proofs.SlotViews.{EntryShape, seq-slot, send-slot, rec-slot, spawn-slot, self-slot, check-slot, messagesOf, read-seq, read-send, read-rec, read-spawn, read-self, read-check}
+use Rattle.store.proofs.SoundSlots.{isLive, namesIn, takenNames, Passes, newestFirst, arrived, SpawnSlot, Shaped, SoundSlots}
 use Rattle.store.proofs.SlotHistories.{mapped, entry-slot, taken-read, flows-read, flows-back, readState, history-read, pool-read, queue-read, sent-read}
 use Rattle.store.proofs.SlotNames.{distinct-read, once-back, all-said-read, all-said-back}
 

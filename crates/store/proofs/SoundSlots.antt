@@ -1,7 +1,7 @@
 -- Soundness said of slots: what a test of the store's words asks. SlotsSound shows that it is soundness.
-use Prim.Native.Nat.{ℕ, suc, _/_, _%_, _≤_, _<_}
+use Prim.Native.Nat.{ℕ, suc, _/_, _%_, _≤_}
 use mathlib.Core.Path.{_≡_}
-use mathlib.Core.Bool.{Bool, true, false, cond}
+use mathlib.Core.Bool.{Bool, true, false}
 use mathlib.Core.Option.{Option, none, some}
 use mathlib.Core.List.{List, [], _∷_, _++_, reverse, tail}
 use lib.Dec.{eqb}

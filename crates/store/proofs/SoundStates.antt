@@ -1,10 +1,10 @@
 -- Sound states can be stored: they fit their sizes, their messages were sent, and no queue, present or before a rec, holds more than P·H.
-use Prim.Native.Nat.{ℕ, zero, suc, _+_, _*_, _≤_, _<_}
+use Prim.Native.Nat.{ℕ, _+_, _≤_, _<_}
 use mathlib.Core.Path.{_≡_, refl, sym, _∙_, ap, subst}
 use mathlib.Core.Logic.{_⊎_, inl, inr}
-use mathlib.Core.Bool.{Bool, true, false, _&&_}
+use mathlib.Core.Bool.{true, false, _&&_}
 use mathlib.Core.Option.{Option, none, some}
-use mathlib.Core.List.{List, [], _∷_, _++_, map, map-append}
+use mathlib.Core.List.{List, [], _∷_, _++_, map-append}
 use native.Mathlib.Omega.{arith}
 use lib.Dec.{leb, ltb}
 use lib.ListN.{length}
@@ -13,12 +13,11 @@ use Rattle.lists.proofs.Tests.{none-not-some, true-or-false, true-not-false, le
 use Rattle.lists.proofs.All.{all-so, all-left, all-right, all-head, all-tail, all-append, all-middle, all-both}
 use Rattle.lists.proofs.Counts.{occurs, occurs-append}
 use Rattle.term.specs.Module.{longestModule, checkModule}
-use Rattle.rules.specs.State.{Sizes, Message, Letter, letter, Taking, taking, asSend, asRec, Entry, Process, State, historyOf, historyAt, isProcess, inPool}
-use Rattle.rules.specs.Flight.{sends, sent, alsoTaken, taken}
+use Rattle.rules.specs.State.{Sizes, Message, letter, Taking, taking, asSend, asRec, Entry, Process, State, historyOf, historyAt, isProcess, inPool}
+use Rattle.rules.specs.Flight.{sends, alsoTaken, taken}
 use Rattle.rules.specs.Load.{goodSizes}
-use Rattle.rules.specs.Sound.{SoundControl, AboutToSend, SentTo, Prefix, Flows, distinct, Sound}
+use Rattle.rules.specs.Sound.{SoundControl, AboutToSend, SentTo, Prefix, Flows, Sound}
 use Rattle.rules.specs.Depends.{queueBefore}
-use Rattle.store.specs.Layout.{namesRoom, nameBase}
 use Rattle.store.proofs.Restoring.{Kept, KeptQueue, KeptEntry}
 use Rattle.store.proofs.Decoding.{Storable}
 use Rattle.store.proofs.Histories.{all-entries, sends-few, sent-below}

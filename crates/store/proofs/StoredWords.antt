@@ -1,18 +1,18 @@
 -- A state whose image stands in a slice of 32-bit words has a module and controls of 32-bit words.
 use Prim.Native.Nat.{ℕ, _+_, _*_, _≤_, _<_}
-use mathlib.Core.Path.{_≡_, refl, sym, _∙_, ap, subst}
+use mathlib.Core.Path.{_≡_, refl, sym, subst}
 use mathlib.Core.Logic.{_⊎_, inl, inr}
 use mathlib.Core.Bool.{true, false}
 use mathlib.Core.Option.{Option, none, some}
-use mathlib.Core.List.{List, [], _∷_, _++_, map, reverse, reverse-reverse}
+use mathlib.Core.List.{List, _++_, map, reverse, reverse-reverse}
 use lib.Dec.{ltb}
-use lib.ListN.{length, take, drop}
+use lib.ListN.{length, drop}
 use Rattle.lists.specs.Lists.{All}
 use Rattle.lists.specs.Fill.{fillTo}
-use Rattle.lists.proofs.Tests.{none-not-some, true-or-false, ltb-true, ltb-false}
-use Rattle.lists.proofs.All.{all-both, all-head, all-tail, all-take, all-drop, all-unjoined, all-unmap, all-reverse}
+use Rattle.lists.proofs.Tests.{true-or-false, ltb-true, ltb-false}
+use Rattle.lists.proofs.All.{all-both, all-head, all-take, all-drop, all-unjoined, all-unmap, all-reverse}
 use Rattle.lists.proofs.Fill.{all-unfill}
-use Rattle.rules.specs.State.{Sizes, Message, Entry, Process, State, historyOf, historyAt, entryAt}
+use Rattle.rules.specs.State.{Sizes, Process, State, historyOf, historyAt}
 use Rattle.store.specs.Layout.{headWords, blocksFrom, slotHead, slotCount, blockSize, Slot, freeSlot, slotWords, entrySlot, presentSlot, placeSlots, slotsAt, block, image}
 use Rattle.store.specs.Image.{IsWord, Worded}
 use Rattle.store.proofs.Reading.{FitsSlot}

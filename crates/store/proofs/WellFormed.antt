@@ -1,12 +1,12 @@
 -- Words that keep the layout: slots, blocks and heads whose unused words are zeros are just what is read of them.
-use Prim.Native.Nat.{ℕ, zero, suc, _+_, _-_, _*_, _≤_, _<_}
+use Prim.Native.Nat.{ℕ, _+_, _-_, _*_, _≤_, _<_}
 use mathlib.Core.Path.{_≡_, refl, sym, _∙_, ap, subst}
 use mathlib.Core.Bool.{cond, Bool, true, false}
 use mathlib.Core.List.{List, [], _∷_, _++_, map, append-assoc, append-nil}
 use native.Mathlib.Omega.{arith}
 use lib.Dec.{eqb}
-use lib.ListN.{length, take, drop, getD, replicate, length-append, length-drop, length-map, take-append-drop, drop-of-length-le}
-use lib.Seq.{take-all, take-take, drop-drop, drop-at, drop-cons, take-add, length-take-le, ext-getD}
+use lib.ListN.{length, take, drop, getD, replicate, length-drop, length-map, take-append-drop, drop-of-length-le}
+use lib.Seq.{take-all, take-take, drop-drop, drop-cons, take-add, length-take-le, ext-getD}
 use borrow.Rule.Slice.PartMut.{midOf}
 use Rattle.lists.specs.Lists.{All, upTo, joined}
 use Rattle.lists.specs.Fill.{fillTo}

@@ -1,13 +1,11 @@
 -- Which words are an image, and what is shown of images. Assumes nothing: these are definitions; `image-laws` of proofs/ shows them.
 use Prim.Native.Nat.{ℕ, _+_, _*_, _≤_, _<_}
 use mathlib.Core.Path.{_≡_}
-use mathlib.Core.Bool.{true}
 use mathlib.Core.Option.{some}
 use mathlib.Core.List.{List, _++_}
 use lib.ListN.{length}
 use Rattle.lists.specs.Lists.{All}
 use Rattle.rules.specs.State.{Sizes, Entry, Process, State, historyAt, entryAt}
-use Rattle.rules.specs.Load.{goodSizes}
 use Rattle.rules.specs.Sound.{Sound}
 use Rattle.rules.specs.Cases.{benchSizes}
 use Rattle.store.specs.Layout.{needed, image}
