@@ -53,7 +53,7 @@ unfolding oneIf
 one-grows true m n h = omega arith
 one-grows false m n h = h
 
-one-least : (b : Bool) (n : ℕ) → n ≤ oneIf b n
+pub one-least : (b : Bool) (n : ℕ) → n ≤ oneIf b n
 unfolding oneIf
 one-least true n = omega arith
 one-least false n = omega arith

@@ -19,3 +19,5 @@ pub mod LaidOut
 pub mod StoredWords
 pub mod WellFormed
 pub mod Tested
+pub mod Births
+pub mod SlotSends

@@ -139,10 +139,10 @@ module _ (module′ : List ℕ) (sizes : Sizes) (places : ℕ → List Slot) (sh
       controls-before = λ p i e stands. each-entry (λ y. Passes module′ sizes (y .control)) (λ z. SoundControl state (z .before)) p i e (λ y c. passes-sound (y .control) c) (x .controls-before p) stands;
       check-numbers = λ p i number e stands says. each-entry (EntryShape module′) (λ y. (n : ℕ) → asCheck (y .kind) ≡ some n → n ≤ 255) p i e check-said (shaped .entries p) stands number says;
       sends-said = λ p i target value e stands says. each-entry (EntryShape module′) (λ y. (t : ℕ) (v : List ℕ) → asSend (y .kind) ≡ some (letter t v) → AboutToSend state (y .before) t v) p i e send-said (shaped .entries p) stands target value says;
-      born = λ q e n. let b = x .born q (sym (pool-read module′ sizes places q) ∙ e) n in (b .0, b .1, spawn-read q (b .0) (b .1) (b .2));
-      born-once = λ q p i p′ i′ a b. x .born-once q p i p′ i′ (spawn-back q p i a) (spawn-back q p′ i′ b);
-      place-0-unborn = λ p i a. x .place-0-unborn p i (spawn-back 0 p i a);
-      children-in-pool = λ q p i a. pool-read module′ sizes places q ∙ x .children-live q p i (spawn-back q p i a);
+      born = λ q e n. let b = x .births .born q (sym (pool-read module′ sizes places q) ∙ e) n in (b .0, b .1, spawn-read q (b .0) (b .1) (b .2));
+      born-once = λ q p i p′ i′ a b. x .births .born-once q p i p′ i′ (spawn-back q p i a) (spawn-back q p′ i′ b);
+      place-0-unborn = λ p i a. x .births .place-0-unborn p i (spawn-back 0 p i a);
+      children-in-pool = λ q p i a. pool-read module′ sizes places q ∙ x .births .children-live q p i (spawn-back q p i a);
       targets-in-pool = λ p k target value e. pool-read module′ sizes places target ∙ x .targets-live p k target value (sym (sent-read module′ sizes places p k) ∙ e);
       once = λ t. ap distinct (arrived-read t) ∙ distinct-read module′ places (arrived places t) (x .once t);
       nothing-else = λ t. subst (All (SentTo state t)) (sym (arrived-read t)) (all-said-read module′ sizes places t (arrived places t) (x .nothing-else t));
@@ -175,10 +175,12 @@ module _ (module′ : List ℕ) (sizes : Sizes) (places : ℕ → List Slot) (sh
       entries-fit = λ p. omega (arith, history-length p, sound .history-fits p);
       controls = present-passes;
       controls-before = before-passes;
-      born = λ q e n. let b = sound .born q (pool-read module′ sizes places q ∙ e) n in (b .0, b .1, spawn-back q (b .0) (b .1) (b .2));
-      born-once = λ q p i p′ i′ a b. sound .born-once q p i p′ i′ (spawn-read q p i a) (spawn-read q p′ i′ b);
-      place-0-unborn = λ p i a. sound .place-0-unborn p i (spawn-read 0 p i a);
-      children-live = λ q p i a. sym (pool-read module′ sizes places q) ∙ sound .children-in-pool q p i (spawn-read q p i a);
+      births = record {
+        born = λ q e n. let b = sound .born q (pool-read module′ sizes places q ∙ e) n in (b .0, b .1, spawn-back q (b .0) (b .1) (b .2));
+        born-once = λ q p i p′ i′ a b. sound .born-once q p i p′ i′ (spawn-read q p i a) (spawn-read q p′ i′ b);
+        place-0-unborn = λ p i a. sound .place-0-unborn p i (spawn-read 0 p i a);
+        children-live = λ q p i a. sym (pool-read module′ sizes places q) ∙ sound .children-in-pool q p i (spawn-read q p i a);
+      };
       targets-live = λ p k target value e. sym (pool-read module′ sizes places target) ∙ sound .targets-in-pool p k target value (sent-read module′ sizes places p k ∙ e);
       once = λ t. once-back module′ places (arrived places t) (ap distinct (sym (arrived-read t)) ∙ sound .once t);
       nothing-else = λ t. all-said-back module′ sizes places t (arrived places t) (subst (All (SentTo state t)) (arrived-read t) (sound .nothing-else t));

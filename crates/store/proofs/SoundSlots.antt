@@ -73,6 +73,13 @@ module _ (places : ℕ → List Slot) where
     pub is-spawn : slot .kind ≡ kindSpawn
     pub child : slot .number ≡ q
 
+-- each live place but 0 is the child of exactly one spawn, place 0 of none, children are live
+pub record BornClauses (places : ℕ → List Slot) : Type 0 where
+  pub born : (q : ℕ) → isLive (places q) ≡ true → ¬ (q ≡ 0) → (p : ℕ) × (i : ℕ) × SpawnSlot places q p i
+  pub born-once : (q p i p′ i′ : ℕ) → SpawnSlot places q p i → SpawnSlot places q p′ i′ → (p ≡ p′) × (i ≡ i′)
+  pub place-0-unborn : (p i : ℕ) → ¬ SpawnSlot places 0 p i
+  pub children-live : (q p i : ℕ) → SpawnSlot places q p i → isLive (places q) ≡ true
+
 module _ (module′ : List ℕ) (places : ℕ → List Slot) where
   -- what the k-th send of p sent
   abbrev pub sentBy : ℕ → ℕ → Option Letter
@@ -97,10 +104,7 @@ pub record SoundSlots (module′ : List ℕ) (sizes : Sizes) (places : ℕ → L
   pub entries-fit : (p : ℕ) → length (tail (places p)) ≤ sizes .entries
   pub controls : (p : ℕ) (x : Slot) (xs : List Slot) → places p ≡ x ∷ xs → Passes module′ sizes (x .control)
   pub controls-before : (p : ℕ) → All (λ x. Passes module′ sizes (x .control)) (tail (places p))
-  pub born : (q : ℕ) → isLive (places q) ≡ true → ¬ (q ≡ 0) → (p : ℕ) × (i : ℕ) × SpawnSlot places q p i
-  pub born-once : (q p i p′ i′ : ℕ) → SpawnSlot places q p i → SpawnSlot places q p′ i′ → (p ≡ p′) × (i ≡ i′)
-  pub place-0-unborn : (p i : ℕ) → ¬ SpawnSlot places 0 p i
-  pub children-live : (q p i : ℕ) → SpawnSlot places q p i → isLive (places q) ≡ true
+  pub births : BornClauses places
   pub targets-live : (p k target : ℕ) (value : List ℕ) → sentBy module′ places p k ≡ some (letter target value) → isLive (places target) ≡ true
   pub once : (t c : ℕ) → occurs c (arrived places t) ≤ 1
   pub nothing-else : (t : ℕ) → All (SaidTo module′ places t) (arrived places t)
