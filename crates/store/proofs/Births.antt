@@ -1,10 +1,10 @@
 -- Spawns counted: each pool place but 0 is the child of exactly one spawn entry where the spawns of each place, counted over all places, are 1 for
 -- a live place but 0 and none for the others.
 use Prim.Native.Nat.{ℕ, zero, suc, _+_, _≤_, _<_}
-use mathlib.Core.Path.{_≡_, refl, sym, _∙_, ap, subst}
+use mathlib.Core.Path.{_≡_, refl, _∙_, ap, subst}
 use mathlib.Core.Logic.{_⊎_, inl, inr}
 use mathlib.Core.Bool.{Bool, true, false, _&&_}
-use mathlib.Core.Option.{none, some}
+use mathlib.Core.Option.{some}
 use mathlib.Core.List.{List, [], _∷_, tail}
 use native.Mathlib.Decide.{ℕ-discrete}
 use native.Mathlib.Omega.{arith}
@@ -12,7 +12,6 @@ use lib.Dec.{eqb, ltb}
 use lib.ListN.{getElem?}
 use Rattle.lists.proofs.Tests.{none-not-some, some-injective, true-or-false, true-not-false, eqb-true, eqb-of, ltb-true, ltb-false, and-left, and-right, and-of}
 use Rattle.lists.proofs.Counts.{oneIf, one-least}
-use Rattle.rules.specs.State.{Sizes}
 use Rattle.store.specs.Layout.{kindSpawn, Slot}
 use Rattle.store.proofs.SoundSlots.{isLive, SpawnSlot, BornClauses}
 

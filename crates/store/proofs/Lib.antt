@@ -21,3 +21,4 @@ pub mod WellFormed
 pub mod Tested
 pub mod Births
 pub mod SlotSends
+pub mod Loading

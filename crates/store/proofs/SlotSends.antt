@@ -1,14 +1,13 @@
 -- What holds of each send by its slot holds of each by its count, and the other way round.
-use Prim.Native.Nat.{ℕ, suc}
-use mathlib.Core.Path.{_≡_, refl, sym, _∙_, ap, subst}
-use mathlib.Core.Logic.{_⊎_, inl, inr}
-use mathlib.Core.Bool.{true, false}
+use Prim.Native.Nat.{ℕ}
+use mathlib.Core.Path.{_≡_, sym, _∙_, ap}
+use mathlib.Core.Logic.{inl, inr}
 use mathlib.Core.Option.{Option, none, some}
 use mathlib.Core.List.{List, [], _∷_, map}
 use native.Mathlib.Omega.{arith}
 use lib.Dec.{eqb}
 use Rattle.lists.specs.Lists.{All}
-use Rattle.lists.proofs.Tests.{none-not-some, some-injective, true-or-false, eqb-apart, eqb-same, cond-true, cond-false}
+use Rattle.lists.proofs.Tests.{none-not-some, true-or-false, eqb-apart, eqb-same, cond-true, cond-false}
 use Rattle.rules.specs.State.{Letter, asSend, Entry}
 use Rattle.rules.specs.Flight.{sends, letterOr, sent}
 use Rattle.store.proofs.Histories.{sent-below}
