@@ -7,3 +7,7 @@ pub mod RowLaws
 pub mod SpotLaws
 pub mod ShapeLaws
 pub mod ReadingLaws
+pub mod MarkLaws
+pub mod StandLaws
+pub mod BindLaws
+pub mod WalkLaws

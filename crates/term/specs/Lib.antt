@@ -11,4 +11,5 @@ pub mod Value
 pub mod Kinds
 pub mod Rows
 pub mod Reading
+pub mod Walking
 pub mod Cases
