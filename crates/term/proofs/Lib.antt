@@ -11,3 +11,8 @@ pub mod MarkLaws
 pub mod StandLaws
 pub mod BindLaws
 pub mod WalkLaws
+pub mod ControlLaws
+pub mod ModuleLaws
+pub mod FunctionLaws
+pub mod RuleLaws
+pub mod CheckLaws

@@ -12,4 +12,5 @@ pub mod Kinds
 pub mod Rows
 pub mod Reading
 pub mod Walking
+pub mod Checking
 pub mod Cases

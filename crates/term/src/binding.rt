@@ -19,7 +19,7 @@ ghost use Rattle.term.specs.Binding.{names, checksAfter};
 ghost use Rattle.term.specs.Walking.{Marks, Binds, Rules, Keeps, KeepsBoth};
 
 // How many variables and how many check numbers there are.
-const VARIABLES: usize = 64;
+pub const VARIABLES: usize = 64;
 
 const NUMBERS: usize = 256;
 
