@@ -24,7 +24,6 @@ use Rattle.term.specs.declared.module.Functions.{Functions}
 use Rattle.term.specs.declared.module.Functions.the-variants.{Count, Fails}
 use Rattle.term.specs.Checking.{badOf, failOf, ReadFunctions, KeepsFunctions}
 use Rattle.term.proofs.ShapeLaws.{Functions as ShapedFunctions, shaped-module}
-use Rattle.term.proofs.ControlLaws.{words-known}
 
 -- the check, by the two tests that are made there
 answer : Bool → Option ℕ → Option ℕ → Option ℕ
@@ -71,7 +70,7 @@ module _ (l counts : List ℕ) (r : Functions) (short : length l ≤ longestModu
     passed = sym (h .answer) ∙ ap failOf e
 
     functions : ShapedFunctions l
-    functions = shaped-module l (words-known l known) passed
+    functions = shaped-module l passed
 
     noted : take m counts ≡ aritiesOf (termsOf l)
     unfolding moduleArities

@@ -25,14 +25,8 @@ use Rattle.term.specs.declared.binding.Gone.the-variants.{Past, Broke}
 use Rattle.term.specs.Walking.{Marks, Stands, Agrees, Keeps}
 use Rattle.term.proofs.RowLaws.{drop-head}
 use Rattle.term.proofs.TreeLaws.{words-one}
-use Rattle.term.proofs.ShapeLaws.{Words32, Shaped, shaped-control}
+use Rattle.term.proofs.ShapeLaws.{Shaped, shaped-control}
 use Rattle.term.proofs.WalkLaws.{agrees-broke, agrees-past}
-
--- the words of a slice have 32 bits
-pub words-known : (l : List ℕ) → ((i : ℕ) → Fits w32 (getD l i 0)) → Words32 l
-unfolding All
-words-known [] f = tt
-words-known (w ∷ l) f = (f 0 .fits, words-known l (λ i. f (suc i)))
 
 -- no marks, for no numbers
 pub no-marks : (size : ℕ) → Marks size (replicate size false) []
@@ -86,7 +80,7 @@ module _ (places : ℕ) (arities l : List ℕ) where
         shaped = reading ∙ ap (onward places [] l []) e ∙ rw (drop-of-length-le l all)
 
         control : Shaped places spotExpression l
-        control = shaped-control places l (words-known l known) shaped
+        control = shaped-control places l shaped
 
         stands : Stands l 0 1 (control .term then end)
         unfolding FitAll count

@@ -34,7 +34,6 @@ use Rattle.term.proofs.TreeLaws.{_andAll_, words-all, count-all, all-en
 use Rattle.term.proofs.ShapeLaws.{shape-terms, shape-misfit, shape-begins, Functions as ShapedFunctions, shaped-module}
 use Rattle.term.proofs.ReadingLaws.{further-ends}
 use Rattle.term.proofs.StandLaws.{Here, here, count-within}
-use Rattle.term.proofs.ControlLaws.{words-known}
 
 -- a spot that no word fits shows where reading has come to
 abbrev noSpot : ℕ
@@ -64,7 +63,7 @@ reads-end places l at spot times a r ts rest h e f row =
 -- an integer is no function
 pub no-integer-function : (x : ℕ) → ¬ Fit 0 spotFunction (int x)
 unfolding Fit fits tagsAt member
-no-integer-function x f = true-not-false (f .1) refl
+no-integer-function x f = true-not-false f refl
 
 -- the functions so far, and those still to come
 pub record Counted (counts : List ℕ) (at number : ℕ) (ts : Terms) : Type 0 where
@@ -173,7 +172,7 @@ module _ (l counts : List ℕ) (at number : ℕ) (s : SoFar l counts at number) 
     so-far-done known few =
         record {
           answer = sym passed;
-          counted = λ m e. let i : number ≡ m = cc in (rw i at (all-noted (shaped-module l (words-known l known) passed)), omega arith);
+          counted = λ m e. let i : number ≡ m = cc in (rw i at (all-noted (shaped-module l passed)), omega arith);
         }
 
   module _ (lt : at < length l) (r : Reading) (h : Reads 0 l at spotFunction 1 r) where
