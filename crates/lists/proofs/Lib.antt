@@ -3,3 +3,7 @@ pub mod Tests
 pub mod Tables
 pub mod Lists
 pub mod MemberTest
+pub mod All
+pub mod Fill
+pub mod Blocks
+pub mod Counts

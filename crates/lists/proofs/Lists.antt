@@ -1,14 +1,13 @@
 -- Laws of the shared definitions on lists: equal rows, some element, the last element.
 use Prim.Native.Nat.{ℕ, zero, suc, _<_}
 use mathlib.Core.Path.{_≡_, refl, sym, _∙_, ap}
-use mathlib.Core.Logic.{_⊎_, inl, inr}
-use mathlib.Core.Bool.{Bool, true, false, _&&_, _||_}
+use mathlib.Core.Bool.{Bool, true, false, _||_}
 use mathlib.Core.List.{List, [], _∷_, _++_}
 use native.Mathlib.Decide.{ℕ-discrete}
 use native.Mathlib.Omega.{arith}
 use lib.Dec.{eqb}
 use Rattle.lists.specs.Lists.{upTo, sameList, any, keep, butLast}
-use Rattle.lists.proofs.Tests.{true-not-false, eqb-true, eqb-same, and-left, and-right, and-of, or-true, or-left, or-right, or-false-left, or-false-right, or-false}
+use Rattle.lists.proofs.Tests.{true-not-false, eqb-true, eqb-same, and-left, and-right, and-of, or-false-left, or-false-right, or-false}
 
 pub same-list : (xs ys : List ℕ) → sameList xs ys ≡ true → xs ≡ ys
 unfolding sameList

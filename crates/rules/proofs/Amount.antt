@@ -1,26 +1,24 @@
 -- A forward step adds one to what is done.
-use Prim.Native.Nat.{ℕ, zero, suc, _+_, _<_, _≤_}
-use mathlib.Core.Path.{_≡_, refl, sym, _∙_, ap, subst}
-use mathlib.Core.Logic.{_≢_, _⊎_, inl, inr}
-use mathlib.Core.Bool.{true, false}
-use mathlib.Core.Option.{Option, none, some}
-use mathlib.Core.List.{List, [], _∷_, _++_}
+use Prim.Native.Nat.{ℕ, zero, suc, _+_, _<_}
+use mathlib.Core.Path.{_≡_, refl, sym, _∙_, ap}
+use mathlib.Core.Logic.{_≢_}
+use mathlib.Core.Bool.{true}
+use mathlib.Core.Option.{some}
+use mathlib.Core.List.{[], _∷_}
 use native.Mathlib.Decide.{ℕ-discrete, decLt}
 use native.Mathlib.Omega.{arith}
-use lib.ListN.{length, length-append}
-use Rattle.lists.specs.Tables.{put}
+use lib.ListN.{length-append}
 use Rattle.lists.proofs.Tables.{put-same, put-other}
-use Rattle.lists.proofs.Tests.{true-not-false, none-not-some, some-injective}
-use Rattle.rules.specs.State.{Message, Kind, asRec, Entry, Process, State, historyOf, historyAt, inPool}
+use Rattle.lists.proofs.Tests.{true-not-false, some-injective}
+use Rattle.rules.specs.State.{asRec, State, historyOf, historyAt, inPool}
 use Rattle.rules.specs.Flight.{alsoTaken, taken}
 use Rattle.rules.specs.Commands.{Deed, makes, undoes, delivers, undelivers, Move, setProcess, setQueue, setBeside, apply}
-use Rattle.rules.specs.Rules.{process, message, Makes, alone, by-send, by-receive, by-spawn, Does, forward, backward, sched, unsched}
-use Rattle.rules.specs.Independent.{Apart, actor, mailbox, actsAt, ifRec, receiver}
+use Rattle.rules.specs.Rules.{message, alone, by-send, by-receive, by-spawn, Does, forward, backward, sched, unsched}
+use Rattle.rules.specs.Independent.{Apart, actsAt}
 use Rattle.rules.specs.Sound.{Sound}
 use Rattle.rules.specs.Reverse.{doneAt, total, amountDone}
 use Rattle.rules.proofs.Views.{made-alone, alone-rec}
 use Rattle.rules.proofs.Messages.{pick-is}
-use Rattle.rules.proofs.Histories.{taken-older}
 use Rattle.rules.proofs.Frame.{Turned, same, grown, shrunk, turned, same-sizes, keep-queue, in-pool}
 use Rattle.rules.proofs.Questions.{flight-lives}
 use Rattle.rules.proofs.Square.{actor-apart, mailbox-apart, receiver-apart}

@@ -1,24 +1,20 @@
 -- A backward command accepted before and after a forward one, and independent of its reverse there, is independent of it.
 use Prim.Native.Nat.{ℕ}
-use mathlib.Core.Path.{_≡_, refl, sym, _∙_, ap, subst, subst₂}
-use mathlib.Core.Logic.{_≢_, _⊎_, inl, inr}
-use mathlib.Core.Bool.{true, false}
+use mathlib.Core.Path.{_≡_, refl, sym, _∙_, ap, subst₂}
+use mathlib.Core.Logic.{inl}
 use mathlib.Core.Option.{Option, none, some}
-use mathlib.Core.List.{List, [], _∷_, _++_}
+use mathlib.Core.List.{[], _∷_, _++_}
 use native.Mathlib.Omega.{arith}
-use Rattle.lists.specs.Tables.{put}
 use Rattle.lists.proofs.Tables.{put-same}
-use Rattle.lists.proofs.Tests.{none-not-some, some-injective}
-use Rattle.rules.specs.State.{Message, Letter, letter, Kind, send, asSend, asRec, asSpawn, Entry, Process, State, historyAt}
+use Rattle.rules.specs.State.{letter, asSend, asSpawn, State, historyAt}
 use Rattle.rules.specs.Flight.{sends, sent}
-use Rattle.rules.specs.Commands.{Command, step, spawnInto, deliver, back, undeliver, Deed, makes, undoes, delivers, undelivers, Move, post, setProcess, setQueue, setBeside, apply, entry}
-use Rattle.rules.specs.Rules.{process, message, InFlight, Undoes, undo-alone, undo-send, undo-receive, undo-spawn, Does, forward, backward, sched, unsched, commandOf}
-use Rattle.rules.specs.Independent.{Apart, actor, mailbox, actsAt, ifRec, receiver, spawnsInto, unspawns, Unsends, Crossed, IndependentDeeds}
+use Rattle.rules.specs.Commands.{Command, step, spawnInto, deliver, back, undeliver, Deed, makes, undoes, delivers, undelivers, Move, post, setQueue, apply, entry}
+use Rattle.rules.specs.Rules.{message, undo-alone, undo-send, undo-receive, undo-spawn, Does, forward, backward, sched, unsched, commandOf}
+use Rattle.rules.specs.Independent.{Apart, actor, mailbox, actsAt, receiver, spawnsInto, unspawns, Unsends, Crossed, IndependentDeeds}
 use Rattle.rules.proofs.Views.{alone-send}
-use Rattle.rules.proofs.Messages.{Any, any-middle, Named}
-use Rattle.rules.proofs.Frame.{keep-process, in-pool}
+use Rattle.rules.proofs.Messages.{any-middle}
 use Rattle.rules.proofs.Deeds.{process-history}
-use Rattle.rules.proofs.Questions.{Came, flight-fresh, live-spawns}
+use Rattle.rules.proofs.Questions.{Came, flight-fresh}
 use Rattle.rules.proofs.Undo.{Backward, apart-none, Undid, undid-entry, undid-delivery}
 
 -- ---- an undo is the same deed at two states that have the same process there

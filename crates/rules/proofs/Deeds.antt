@@ -1,23 +1,22 @@
 -- What a deed says of the state: a spawn that is made or undone, a send that is made.
-use Prim.Native.Nat.{ℕ, suc, _<_}
+use Prim.Native.Nat.{ℕ, _<_}
 use mathlib.Core.Path.{_≡_, refl, sym, _∙_, ap}
 use mathlib.Core.Logic.{_≢_}
 use mathlib.Core.Bool.{true, false}
 use mathlib.Core.Option.{Option, none, some}
 use mathlib.Core.List.{List, [], _∷_}
 use native.Mathlib.Omega.{arith}
-use Rattle.lists.specs.Tables.{put}
 use Rattle.lists.proofs.Tables.{put-same, put-other}
 use Rattle.lists.proofs.Tests.{true-not-false, none-not-some, some-injective}
 use Rattle.machine.specs.Work.{toSend, toSpawn, work}
-use Rattle.rules.specs.State.{Letter, letter, Kind, spawn, asSend, asSpawn, Entry, Process, State, historyOf, historyAt, inPool}
+use Rattle.rules.specs.State.{Letter, letter, spawn, asSend, asSpawn, Entry, Process, State, historyOf, historyAt, inPool}
 use Rattle.rules.specs.Flight.{sends}
 use Rattle.rules.specs.Load.{newProcess}
 use Rattle.rules.specs.Commands.{Deed, makes, undoes, delivers, undelivers, Move, setProcess, setQueue, setBeside, apply, entry}
-use Rattle.rules.specs.Rules.{process, InFlight, Makes, alone, by-send, by-receive, by-spawn, Undoes, undo-alone, undo-send, undo-receive, undo-spawn, Does, forward, backward, sched, unsched}
+use Rattle.rules.specs.Rules.{process, InFlight, alone, by-send, by-receive, by-spawn, undo-alone, undo-send, undo-receive, undo-spawn, Does, forward, backward, sched, unsched}
 use Rattle.rules.specs.Independent.{actor, spawnsInto, unspawns}
 use Rattle.rules.proofs.Views.{made-alone, alone-send, alone-spawn}
-use Rattle.rules.proofs.Frame.{history-of, in-pool, no-process}
+use Rattle.rules.proofs.Frame.{in-pool}
 
 -- the place that a step sends to
 unfoldable pub targetOf : Option Letter → Option ℕ

@@ -1,29 +1,30 @@
 -- What is demanded of the rules holds, by the laws of one process step.
-use Prim.Native.Nat.{ℕ, suc, _+_}
+use Prim.Native.Nat.{ℕ, _+_}
 use mathlib.Core.Path.{_≡_, refl, sym, _∙_, ap, subst}
-use mathlib.Core.Logic.{_≢_, _⊎_, inl, inr, _↔_}
+use mathlib.Core.Logic.{_≢_}
 use mathlib.Core.Bool.{true, false, not}
-use mathlib.Core.Option.{Option, none, some}
-use mathlib.Core.List.{List, [], _∷_}
+use mathlib.Core.Option.{none, some}
+use mathlib.Core.List.{List}
 use native.Mathlib.Omega.{arith}
 use Rattle.term.specs.Module.{checkModule}
 use Rattle.machine.specs.Laws.{WorkLaws}
 use Rattle.machine.proofs.WorkLaws.{work-laws}
 use Rattle.causal.specs.Paths.{Run, done, more}
-use Rattle.causal.specs.Exec.{Step, runAll, ConsistencyOfRuns}
+use Rattle.causal.specs.Exec.{Step, ConsistencyOfRuns}
 use Rattle.causal.proofs.Exec.{of-run}
 use Rattle.rules.specs.State.{Sizes, State}
 use Rattle.rules.specs.Load.{goodSizes, loaded, loads, load}
 use Rattle.rules.specs.Commands.{Command, undeliver, Deed, makes, undoes, delivers, undelivers, Move, apply, runState}
-use Rattle.rules.specs.Rules.{Does, forward, backward, sched, unsched, commandOf}
+use Rattle.rules.specs.Rules.{Does, commandOf}
 use Rattle.rules.specs.Sound.{Sound}
 use Rattle.rules.specs.Independent.{unspawns, IndependentDeeds, Independent}
 use Rattle.rules.specs.Reverse.{reverse, isForward, amountDone}
-use Rattle.rules.specs.Demands.{Reachable, Commute, AreTheRules, StaysSound, StepsReverse, IndependentCommute, CausallyConsistent, Demands}
+use Rattle.rules.specs.Demands.{Reachable, Commute, Demands}
 use Rattle.rules.proofs.RunSound.{run-sound}
 use Rattle.rules.proofs.RunComplete.{run-complete}
+use Rattle.rules.proofs.Refusals.{refusals}
 use Rattle.rules.proofs.Deeds.{target}
-use Rattle.rules.proofs.Square.{Calm, calm-sym, apart-sym}
+use Rattle.rules.proofs.Square.{Calm, apart-sym}
 use Rattle.rules.proofs.Undo.{Undo, Backward, apart-none}
 use Rattle.rules.proofs.Amount.{amount-grows}
 use Rattle.rules.proofs.Knows.{unspawns-apart, calm}
@@ -135,6 +136,7 @@ module _ (laws-of : (module′ : List ℕ) (sizes : Sizes) → goodSizes sizes �
     rules = record {
       accepted-is-allowed = λ s c d w sound e. run-sound s (sound .pool-ends) c e;
       allowed-is-accepted = λ s d w a. run-complete a;
+      refused-is-listed = λ s c n sound. refusals s (sound .pool-ends) c n;
     };
     sound = record {
       loaded = λ module′ sizes s e. load-reached (loads-of module′ sizes e) .sound;

@@ -1,20 +1,20 @@
 -- In a sound state each send's message stands exactly once.
-use Prim.Native.Nat.{ℕ, suc, _≤_}
+use Prim.Native.Nat.{ℕ, suc}
 use mathlib.Core.Path.{_≡_, refl, sym, _∙_, ap}
-use mathlib.Core.Logic.{_≢_, _⊎_, inl, inr}
-use mathlib.Core.Bool.{Bool, true, false, not, _&&_, _||_}
+use mathlib.Core.Logic.{inl, inr}
+use mathlib.Core.Bool.{Bool, true, false, _||_}
 use mathlib.Core.Option.{some}
 use mathlib.Core.List.{List, [], _∷_, _++_}
 use lib.ListN.{length}
 use Rattle.lists.specs.Lists.{any, keep}
 use Rattle.lists.proofs.Lists.{any-append}
-use Rattle.lists.proofs.Tests.{true-not-false, true-or-false, or-false-left, or-false-right, some-injective}
-use Rattle.rules.specs.State.{Message, Letter, letter, State, historyAt, inPool, isNamed}
+use Rattle.lists.proofs.Tests.{true-not-false, true-or-false, or-false-left, or-false-right}
+use Rattle.rules.specs.State.{Message, letter, State, historyAt, isNamed}
 use Rattle.rules.specs.Flight.{sent, taken, hasCome, flies}
 use Rattle.rules.specs.Sound.{Sound}
 use Rattle.rules.specs.Demands.{timesAt, ExactlyOnce}
-use Rattle.rules.proofs.Messages.{Any, Named, is-named, named-is, named-not, not-named, find-named, Once, once-of}
-use Rattle.rules.proofs.Questions.{Came, has-come, came-has}
+use Rattle.rules.proofs.Messages.{is-named, named-not, Once, once-of}
+use Rattle.rules.proofs.Questions.{has-come}
 use Rattle.rules.proofs.SoundFacts.{mail-named}
 
 -- none of the name

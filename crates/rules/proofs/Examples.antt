@@ -1,17 +1,16 @@
 -- What the demands say of some runs: the hypotheses hold of a run with a spawn, a send, a delivery and a receive.
 use Prim.Native.Nat.{ℕ}
 use mathlib.Core.Path.{_≡_, refl, sym, _∙_, ap}
-use mathlib.Core.Bool.{true, false}
-use mathlib.Core.Option.{Option, none, some}
-use mathlib.Core.List.{List, [], _∷_}
+use mathlib.Core.Option.{none, some}
+use mathlib.Core.List.{List, [], _∷_, _++_}
 use native.Mathlib.Omega.{arith}
-use Rattle.causal.specs.Paths.{Change, exchange, later, Turns, unchanged, changed, Run}
+use Rattle.causal.specs.Paths.{exchange, later, Turns, unchanged, changed}
 use Rattle.causal.specs.Exec.{Step, runAll}
 use Rattle.causal.proofs.Exec.{of-run}
-use Rattle.rules.specs.State.{State, Kind, seq, send, asSend, asRec, asSpawn}
+use Rattle.rules.specs.State.{State, seq, send}
 use Rattle.rules.specs.Load.{loaded, loads, load}
-use Rattle.rules.specs.Commands.{Command, step, spawnInto, deliver, back, undeliver, makes, runState}
-use Rattle.rules.specs.Independent.{Apart, actor, mailbox, actsAt, ifRec, receiver, spawnsInto, unspawns, Crossed, IndependentDeeds, Independent}
+use Rattle.rules.specs.Commands.{Command, step, spawnInto, deliver, makes, runState}
+use Rattle.rules.specs.Independent.{Apart, actor, mailbox, actsAt, ifRec, receiver, spawnsInto, unspawns, Crossed, Independent}
 use Rattle.rules.specs.Reverse.{reverse}
 use Rattle.rules.specs.Opened.{opened}
 use Rattle.rules.specs.Cases.{benchSizes, pair, two}
@@ -106,21 +105,43 @@ pub one-end : after pair sentFirst ≡ after pair readyFirst
 one-end = demands .causal .consistent (loaded pair benchSizes) (after pair sentFirst) (after pair readyFirst) sentFirst readyFirst load-reachable sent-first-accepted ready-first-accepted .1 orders-turn
 
 -- ---- two messages that come in two orders
--- 0 spawns 1 and sends it atoms 5 and 6, and the messages are delivered
+-- 0 spawns 1 and sends it atoms 5 and 6
 abbrev prepared : List Command
 prepared = step 0 ∷ spawnInto 0 1 ∷ step 0 ∷ step 0 ∷ step 0 ∷ []
 
-pub two-reachable : Reachable (after two prepared)
+-- the messages are delivered as they were sent, or the other way round
+abbrev inOrder : List Command
+inOrder = deliver 0 0 ∷ deliver 0 1 ∷ []
+
+abbrev turnedRound : List Command
+turnedRound = deliver 0 1 ∷ deliver 0 0 ∷ []
+
+two-reachable : Reachable (after two prepared)
 unfolding after
 two-reachable = record { module′ = two; sizes = benchSizes; root = loaded two benchSizes; is-load = refl; commands = prepared; lead = refl }
+
+in-order-accepted : runAll runState inOrder (after two prepared) ≡ some (after two (prepared ++ inOrder))
+unfolding after
+in-order-accepted = refl
+
+turned-round-accepted : runAll runState turnedRound (after two prepared) ≡ some (after two (prepared ++ turnedRound))
+unfolding after
+turned-round-accepted = refl
 
 -- the count of the oldest message that 1 has in its queue
 oldestCount : State → ℕ
 oldestCount s = elim (s .queues 1) [ [] ↦ 0 | m ∷ queue ↦ m .count ]
 
--- the two orders of their deliveries end differently, so neither turns into the other
-pub deliveries-differ : ¬ Turns (Step runState) reverse Independent (after two prepared) (deliver 0 0 ∷ deliver 0 1 ∷ []) (deliver 0 1 ∷ deliver 0 0 ∷ [])
+oldest-in-order : oldestCount (after two (prepared ++ inOrder)) ≡ 0
 unfolding after oldestCount
+oldest-in-order = refl
+
+oldest-turned-round : oldestCount (after two (prepared ++ turnedRound)) ≡ 1
+unfolding after oldestCount
+oldest-turned-round = refl
+
+-- the two end differently, so neither turns into the other
+pub deliveries-differ : ¬ Turns (Step runState) reverse Independent (after two prepared) inOrder turnedRound
 deliveries-differ x =
-    let same = demands .causal .consistent (after two prepared) _ _ (deliver 0 0 ∷ deliver 0 1 ∷ []) (deliver 0 1 ∷ deliver 0 0 ∷ []) two-reachable refl refl .1 x in
-    zero-not-one (ap oldestCount same)
+    let same = demands .causal .consistent (after two prepared) (after two (prepared ++ inOrder)) (after two (prepared ++ turnedRound)) inOrder turnedRound two-reachable in-order-accepted turned-round-accepted .1 x in
+    zero-not-one (sym oldest-in-order ∙ ap oldestCount same ∙ oldest-turned-round)

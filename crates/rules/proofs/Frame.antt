@@ -1,20 +1,18 @@
 -- What an accepted command leaves as it was, and how a history changes.
-use Prim.Native.Nat.{ℕ, suc, _<_}
+use Prim.Native.Nat.{ℕ}
 use mathlib.Core.Path.{_≡_, refl, sym, _∙_, ap, subst}
-use mathlib.Core.Logic.{_≢_, _⊎_, inl, inr}
-use mathlib.Core.Bool.{Bool, true, false}
+use mathlib.Core.Bool.{true, false}
 use mathlib.Core.Option.{Option, none, some}
-use mathlib.Core.List.{List, [], _∷_, _++_}
+use mathlib.Core.List.{List, [], _∷_}
 use native.Mathlib.Decide.{ℕ-discrete}
-use native.Mathlib.Omega.{arith}
 use Rattle.lists.specs.Tables.{put}
 use Rattle.lists.proofs.Tables.{put-same, put-other}
 use Rattle.lists.proofs.Tests.{true-not-false}
 use Rattle.machine.specs.Work.{work}
-use Rattle.rules.specs.State.{Message, Kind, asRec, asSpawn, Entry, Process, Sizes, State, historyOf, historyAt, isProcess, inPool}
+use Rattle.rules.specs.State.{Kind, asRec, asSpawn, Entry, Process, State, historyOf, historyAt, isProcess, inPool}
 use Rattle.rules.specs.Flight.{sends}
-use Rattle.rules.specs.Commands.{Deed, makes, undoes, delivers, undelivers, Beside, nothing, ownQueue, other, Move, turn, post, setProcess, setQueue, setBeside, apply, entry}
-use Rattle.rules.specs.Rules.{process, MakesAlone, by-seq, by-self, by-check, Makes, alone, by-send, by-receive, by-spawn, Undoes, undo-alone, undo-send, undo-receive, undo-spawn, Does, forward, backward, sched, unsched}
+use Rattle.rules.specs.Commands.{Deed, makes, undoes, Beside, nothing, ownQueue, other, Move, turn, post, setProcess, setQueue, setBeside, apply, entry}
+use Rattle.rules.specs.Rules.{process, MakesAlone, by-seq, by-self, by-check, Makes, alone, by-send, by-receive, by-spawn, undo-alone, undo-send, undo-receive, undo-spawn, Does, forward, backward, sched, unsched}
 use Rattle.rules.specs.Independent.{Apart, actor, mailbox, ifRec, receiver, spawnsInto, unspawns}
 
 pub state-path : {s t : State} → s .module′ ≡ t .module′ → s .sizes ≡ t .sizes → s .processes ≡ t .processes → s .queues ≡ t .queues → s ≡ t

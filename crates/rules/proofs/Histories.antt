@@ -2,16 +2,14 @@
 use Prim.Native.Nat.{ℕ, suc, _<_, _≤_}
 use mathlib.Core.Path.{_≡_, refl, sym, _∙_, ap}
 use mathlib.Core.Logic.{_⊎_, inl, inr}
-use mathlib.Core.Bool.{Bool, true, false, cond}
 use mathlib.Core.Option.{Option, none, some}
-use mathlib.Core.List.{List, [], _∷_, _++_}
+use mathlib.Core.List.{List, [], _∷_}
 use native.Mathlib.Decide.{ℕ-discrete}
 use native.Mathlib.Omega.{arith}
-use lib.Dec.{eqb}
 use lib.ListN.{length}
 use Rattle.lists.proofs.Tests.{none-not-some, some-injective, eqb-apart, eqb-same, eqb-of, cond-true, cond-false}
-use Rattle.rules.specs.State.{Message, Letter, letter, Taking, taking, asSend, asRec, Entry, Process, State, historyOf, historyAt, entryAt}
-use Rattle.rules.specs.Flight.{countLetter, sends, letterOr, sent, alsoTaken, taken, leftOr, left}
+use Rattle.rules.specs.State.{Message, Letter, Taking, taking, asSend, asRec, Entry, entryAt}
+use Rattle.rules.specs.Flight.{countLetter, sends, letterOr, sent, alsoTaken, taken, leftOr}
 use Rattle.rules.proofs.Messages.{Any, here, there, Is}
 
 pub below-not-same : {a b : ℕ} → a < b → a ≡ b → ⊥

@@ -1,28 +1,24 @@
 -- Pids come only from their spawn: what a reached state keeps, so that a place whose spawn can be undone is nobody's target.
-use Prim.Native.Nat.{ℕ, suc, _<_, _≤_}
-use mathlib.Core.Path.{_≡_, refl, sym, _∙_, ap, subst}
-use mathlib.Core.Logic.{_≢_, _⊎_, inl, inr}
-use mathlib.Core.Bool.{true, false}
+use Prim.Native.Nat.{ℕ, suc}
+use mathlib.Core.Path.{_≡_, refl, sym, ap}
 use mathlib.Core.Option.{Option, none, some}
-use mathlib.Core.List.{List, [], _∷_, _++_}
+use mathlib.Core.List.{List, [], _∷_}
 use native.Mathlib.Omega.{arith}
 use lib.ListN.{length}
 use Rattle.lists.proofs.Tests.{none-not-some}
 use Rattle.machine.specs.Laws.{Holds}
-use Rattle.rules.specs.State.{Message, Letter, letter, Kind, rec, spawn, self, asSend, asSpawn, Entry, State, historyAt}
-use Rattle.rules.specs.Flight.{sends, sent}
-use Rattle.rules.specs.Commands.{Deed, Move, apply, entry}
-use Rattle.rules.specs.Rules.{process, Does}
+use Rattle.rules.specs.State.{Message, letter, rec, spawn, self, asSend, asSpawn, Entry, State, historyAt}
+use Rattle.rules.specs.Flight.{sends}
+use Rattle.rules.specs.Commands.{Deed, Move, entry}
+use Rattle.rules.specs.Rules.{Does}
 use Rattle.rules.specs.Independent.{Apart, actor, unspawns, IndependentDeeds}
 use Rattle.rules.specs.Sound.{SentTo, Sound}
-use Rattle.rules.proofs.Messages.{Is}
 use Rattle.rules.proofs.Histories.{Suffix, suffix-top, suffix-tail, suffix-length, sent-suffix}
 use Rattle.rules.proofs.Frame.{history-of}
-use Rattle.rules.proofs.Deeds.{target, Unspawning, unspawning, Sending, sending}
-use Rattle.rules.proofs.Questions.{Among}
+use Rattle.rules.proofs.Deeds.{target, Unspawning, unspawning, sending}
 use Rattle.rules.proofs.Square.{Calm, apart-sym}
-use Rattle.rules.proofs.Positions.{Had, now, past}
-use Rattle.rules.proofs.SoundFacts.{mail, spawned-once}
+use Rattle.rules.proofs.Positions.{Had, now}
+use Rattle.rules.proofs.SoundFacts.{spawned-once}
 use Rattle.rules.proofs.SoundControls.{LawsAt, had-good}
 
 -- m stands as a send to t in its sender's history, after the entries g

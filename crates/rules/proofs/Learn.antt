@@ -1,23 +1,23 @@
 -- What processes have learnt is kept by every accepted command.
-use Prim.Native.Nat.{ℕ, suc, _<_, _≤_}
+use Prim.Native.Nat.{ℕ}
 use mathlib.Core.Path.{_≡_, refl, sym, _∙_, ap, subst}
-use mathlib.Core.Logic.{_≢_, _⊎_, inl, inr}
-use mathlib.Core.Bool.{true, false}
-use mathlib.Core.Option.{Option, none, some}
-use mathlib.Core.List.{List, [], _∷_, _++_}
+use mathlib.Core.Logic.{_⊎_, inl, inr}
+use mathlib.Core.Bool.{true}
+use mathlib.Core.Option.{some}
+use mathlib.Core.List.{List, [], _∷_}
 use lib.ListN.{length}
 use Rattle.lists.proofs.Tests.{true-not-false, none-not-some}
 use Rattle.machine.specs.Laws.{Holds}
-use Rattle.rules.specs.State.{Message, Letter, letter, Taking, taking, Kind, seq, self, check, send, rec, spawn, asSend, asRec, asSpawn, Entry, State, historyAt, inPool}
-use Rattle.rules.specs.Flight.{sends, sent, taken}
-use Rattle.rules.specs.Commands.{Deed, makes, undoes, delivers, Beside, Move, apply, entry}
-use Rattle.rules.specs.Rules.{process, InFlight, MakesAlone, by-seq, by-self, by-check, Makes, alone, by-send, by-receive, by-spawn, Undoes, undo-send, Does, backward}
+use Rattle.rules.specs.State.{Message, letter, Kind, seq, self, check, send, rec, spawn, asRec, asSpawn, Entry, State, historyAt, inPool}
+use Rattle.rules.specs.Flight.{sends, sent}
+use Rattle.rules.specs.Commands.{Deed, undoes, Beside, Move, apply, entry}
+use Rattle.rules.specs.Rules.{process, by-seq, by-self, by-check, Makes, alone, by-send, by-receive, by-spawn, Does}
 use Rattle.rules.specs.Independent.{unspawns, Unsends}
 use Rattle.rules.specs.Sound.{SentTo, Sound}
-use Rattle.rules.proofs.Messages.{Any, Is, any-map, any-middle, Named, pick-is, pick-takes}
+use Rattle.rules.proofs.Messages.{Is, any-middle, pick-is, pick-takes}
 use Rattle.rules.proofs.Histories.{Suffix, suffix-top, suffix-tail, suffix-entry, suffix-sent, suffix-taken}
-use Rattle.rules.proofs.Frame.{turned, not-in-pool, history-of, in-pool}
-use Rattle.rules.proofs.Deeds.{Spawning, Unspawning, unspawning}
+use Rattle.rules.proofs.Frame.{turned, not-in-pool, history-of}
+use Rattle.rules.proofs.Deeds.{unspawning}
 use Rattle.rules.proofs.Questions.{Among, Posts, among-was}
 use Rattle.rules.proofs.Positions.{suffix-stays, suffix-lives, Had, now, past, had-lives, Fresh, made, child, had-was}
 use Rattle.rules.proofs.SoundFacts.{mail}

@@ -37,8 +37,11 @@ pub mod Replay
 pub mod Amount
 pub mod Reached
 pub mod Corner
+pub mod SameCommand
 pub mod Steps
 pub mod Causal
 pub mod ExactlyOnce
 pub mod Demands
 pub mod Examples
+pub mod Refusals
+pub mod Limits

@@ -1,22 +1,22 @@
 -- Plans: what a test that is needed says of an accepted plan; and nothing in flight to a place, as a test and as a statement.
 use Prim.Native.Nat.{ℕ, _<_, _≤_}
 use mathlib.Core.Path.{_≡_, refl, sym, _∙_, ap, subst₂}
-use mathlib.Core.Logic.{_⊎_, inl, inr}
-use mathlib.Core.Bool.{Bool, true, false, not, _&&_}
+use mathlib.Core.Logic.{inl, inr}
+use mathlib.Core.Bool.{Bool, true, false, _&&_}
 use mathlib.Core.Option.{Option, none, some}
 use mathlib.Core.List.{List, [], _∷_}
 use native.Mathlib.Decide.{decLt}
 use native.Mathlib.Omega.{arith}
 use lib.Dec.{eqb}
 use Rattle.lists.specs.Lists.{any, upTo}
-use Rattle.lists.proofs.Tests.{true-not-false, none-not-some, some-injective, eqb-true, eqb-same, and-left, and-right, and-of, true-or-false}
+use Rattle.lists.proofs.Tests.{true-not-false, none-not-some, eqb-true, eqb-same, and-left, and-right, and-of, true-or-false}
 use Rattle.lists.proofs.Lists.{none-below, none-of-below}
 use Rattle.rules.specs.State.{Letter, letter, Entry, Process, State, historyOf, historyAt, inPool}
 use Rattle.rules.specs.Flight.{sends, sent, flies, fliesTo, awaited}
 use Rattle.rules.specs.Load.{newProcess}
 use Rattle.rules.specs.Commands.{Deed, Move, Plan, refuse, accept, need, isNew}
-use Rattle.rules.specs.Rules.{process, InFlight}
-use Rattle.rules.proofs.Histories.{sent-below, nil-cons}
+use Rattle.rules.specs.Rules.{InFlight}
+use Rattle.rules.proofs.Histories.{sent-below}
 use Rattle.rules.proofs.Frame.{no-process}
 
 pub refused : {B : Type 0} {n : ℕ} {d : Deed} {w : Move} → refuse n ≡ accept d w → B

@@ -1,26 +1,25 @@
 -- Positions: the controls that a process has and had, each with the history it had then; and how they change.
-use Prim.Native.Nat.{ℕ, suc, _<_, _≤_}
+use Prim.Native.Nat.{ℕ, _<_, _≤_}
 use mathlib.Core.Path.{_≡_, refl, sym, _∙_, ap, subst}
-use mathlib.Core.Logic.{_≢_, _⊎_, inl, inr}
-use mathlib.Core.Bool.{true, false}
+use mathlib.Core.Logic.{_⊎_, inl, inr}
+use mathlib.Core.Bool.{true}
 use mathlib.Core.Option.{Option, none, some}
-use mathlib.Core.List.{List, [], _∷_, _++_}
+use mathlib.Core.List.{List, [], _∷_}
 use native.Mathlib.Decide.{ℕ-discrete}
 use native.Mathlib.Omega.{arith}
 use lib.ListN.{length}
 use Rattle.lists.specs.Tables.{put}
 use Rattle.lists.proofs.Tables.{put-same, put-other}
-use Rattle.lists.proofs.Tests.{true-not-false, none-not-some, some-injective}
-use Rattle.machine.specs.Work.{toSpawn, work}
+use Rattle.lists.proofs.Tests.{none-not-some, some-injective}
 use Rattle.rules.specs.State.{Kind, spawn, asSpawn, Entry, Process, State, historyOf, historyAt, inPool}
 use Rattle.rules.specs.Flight.{sends}
 use Rattle.rules.specs.Load.{newProcess}
 use Rattle.rules.specs.Commands.{Deed, makes, undoes, Beside, Move, turn, other, setProcess, setQueue, setBeside, apply, entry}
-use Rattle.rules.specs.Rules.{process, Makes, alone, by-send, by-receive, by-spawn, Undoes, undo-alone, undo-send, undo-receive, undo-spawn, Does, forward, backward, sched, unsched}
+use Rattle.rules.specs.Rules.{process, Makes, alone, by-send, by-receive, by-spawn, undo-alone, undo-send, undo-receive, undo-spawn, Does, forward, backward, sched, unsched}
 use Rattle.rules.specs.Independent.{spawnsInto}
-use Rattle.rules.proofs.Histories.{Suffix, whole, older, suffix-cons, suffix-top, suffix-length}
+use Rattle.rules.proofs.Histories.{Suffix, older, suffix-cons, suffix-top, suffix-length}
 use Rattle.rules.proofs.Frame.{Turned, same, grown, shrunk, turned, in-pool, history-of}
-use Rattle.rules.proofs.Deeds.{Spawning, spawning, process-control, process-history}
+use Rattle.rules.proofs.Deeds.{Spawning, spawning}
 
 -- ---- entries
 -- an entry that is new: its process had its control before, and the older entries

@@ -1,26 +1,25 @@
 -- What the rules ask of a state, before and after another accepted command.
-use Prim.Native.Nat.{ℕ, suc, _<_}
+use Prim.Native.Nat.{ℕ}
 use mathlib.Core.Path.{_≡_, refl, sym, _∙_, ap}
-use mathlib.Core.Logic.{_≢_, _⊎_, inl, inr}
-use mathlib.Core.Bool.{Bool, true, false, not, _&&_, _||_}
+use mathlib.Core.Logic.{_⊎_, inl, inr}
+use mathlib.Core.Bool.{true, false, not}
 use mathlib.Core.Option.{Option, none, some}
 use mathlib.Core.List.{List, [], _∷_, _++_}
 use native.Mathlib.Decide.{ℕ-discrete}
-use native.Mathlib.Omega.{arith}
 use Rattle.lists.specs.Lists.{any}
 use Rattle.lists.specs.Tables.{put}
 use Rattle.lists.proofs.Tables.{put-same, put-other}
 use Rattle.lists.proofs.Tests.{true-not-false, true-or-false, none-not-some, some-injective, and-left, and-right, and-of, not-true, or-true, or-left, or-right}
 use Rattle.rules.specs.State.{Message, Letter, letter, Taking, taking, Kind, asSend, asRec, asSpawn, Entry, Process, State, historyOf, historyAt, isProcess, inPool, isNamed}
-use Rattle.rules.specs.Flight.{sends, letterOr, sent, alsoTaken, taken, leftOr, left, hasCome, flies}
-use Rattle.rules.specs.Commands.{Deed, makes, undoes, delivers, undelivers, Beside, Move, turn, post, setProcess, setQueue, setBeside, apply, pick, entry}
-use Rattle.rules.specs.Rules.{process, message, InFlight, Makes, alone, by-send, by-receive, by-spawn, Undoes, undo-alone, undo-send, undo-receive, undo-spawn, Does, forward, backward, sched, unsched}
-use Rattle.rules.specs.Independent.{Apart, actor, mailbox, ifRec, receiver, spawnsInto, unspawns, Unsends}
-use Rattle.rules.proofs.Views.{made-alone, alone-send, alone-rec, alone-spawn}
-use Rattle.rules.proofs.Messages.{Any, here, there, any-append, any-left, any-more, any-middle, any-less, any-one, Named, find-named, named-found, pick-is}
+use Rattle.rules.specs.Flight.{sends, sent, alsoTaken, taken, left, hasCome, flies}
+use Rattle.rules.specs.Commands.{Deed, undoes, delivers, Beside, Move, setProcess, setQueue, setBeside, apply, entry}
+use Rattle.rules.specs.Rules.{message, InFlight, Makes, alone, by-send, by-receive, by-spawn, undo-alone, undo-send, undo-receive, undo-spawn, Does, forward, backward, sched, unsched}
+use Rattle.rules.specs.Independent.{Apart, actor, ifRec, receiver, spawnsInto, unspawns, Unsends}
+use Rattle.rules.proofs.Views.{made-alone, alone-rec}
+use Rattle.rules.proofs.Messages.{Any, here, any-append, any-left, any-more, any-middle, any-less, any-one, Named, find-named, named-found, pick-is}
 use Rattle.rules.proofs.Histories.{letter-older, letter-which, sent-below, below-not-same, left-older, taken-older, taken-more, taken-which}
 use Rattle.rules.proofs.Deeds.{targetOf, target, unspawning, spawning}
-use Rattle.rules.proofs.Frame.{Turned, same, grown, shrunk, turned, keep-process, keep-queue, no-process, process-of, in-pool, not-in-pool, history-of}
+use Rattle.rules.proofs.Frame.{Turned, same, grown, shrunk, turned, keep-process, in-pool}
 
 -- ---- messages in flight
 -- a message with the property has come to t
@@ -98,18 +97,23 @@ no-rec kind x a = go (asRec kind) refl a
     go none i a = i
     go (some t) i a = absurd (a refl)
 
--- what the newest rec left stays, unless it is made or undone
-pub left-stays : {s : State} {d : Deed} {x : ℕ} {h h′ : List Entry} → Turned s d x h h′ → Apart (receiver d) (some x) → left h′ ≡ left h
-unfolding left receiver
-left-stays (same i) a = ap left i
-left-stays {x} {h} (grown kind c i u _ _) a = ap left i ∙ left-older (asRec kind) (left h) (no-rec kind x (rw u at a))
-left-stays {x} {h′} (shrunk kind c i u) a = sym (ap left i ∙ left-older (asRec kind) (left h′) (no-rec kind x (rw u at a)))
+-- what only recs change stays, unless one is made or undone
+recs-stay : {A : Type 0} (f : List Entry → A) → ((e : Entry) (h : List Entry) → asRec (e .kind) ≡ none → f (e ∷ h) ≡ f h)
+    → {s : State} {d : Deed} {x : ℕ} {h h′ : List Entry} → Turned s d x h h′ → Apart (receiver d) (some x) → f h′ ≡ f h
+unfolding receiver
+recs-stay f only (same i) a = ap f i
+recs-stay f only {x} {h} (grown kind c i u _ _) a = ap f i ∙ only (entry kind c) h (no-rec kind x (rw u at a))
+recs-stay f only {x} {h′} (shrunk kind c i u) a = sym (ap f i ∙ only (entry kind c) h′ (no-rec kind x (rw u at a)))
 
+-- so does what the newest rec left, ..
+pub left-stays : {s : State} {d : Deed} {x : ℕ} {h h′ : List Entry} → Turned s d x h h′ → Apart (receiver d) (some x) → left h′ ≡ left h
+unfolding left
+left-stays t a = recs-stay left (λ e h i. left-older (asRec (e .kind)) (left h) i) t a
+
+-- .. and what the recs took
 pub taken-stays : {s : State} {d : Deed} {x : ℕ} {h h′ : List Entry} → Turned s d x h h′ → Apart (receiver d) (some x) → taken h′ ≡ taken h
-unfolding taken receiver
-taken-stays (same i) a = ap taken i
-taken-stays {x} {h} (grown kind c i u _ _) a = ap taken i ∙ taken-older (asRec kind) (taken h) (no-rec kind x (rw u at a))
-taken-stays {x} {h′} (shrunk kind c i u) a = sym (ap taken i ∙ taken-older (asRec kind) (taken h′) (no-rec kind x (rw u at a)))
+unfolding taken
+taken-stays t a = recs-stay taken (λ e h i. taken-older (asRec (e .kind)) (taken h) i) t a
 
 -- the message of a rec stands in the queue
 rec-takes : {P : Message → Type 0} {s : State} {x : ℕ} {control next : List ℕ} {kind : Kind} {beside : Beside} {a b : List Message} {m : Message} → Makes s x control kind next beside

@@ -1,30 +1,24 @@
 -- What holds in every state reached from a load, and what follows of an accepted command there: it can be reversed by its reverse.
 use Prim.Native.Nat.{ℕ}
 use mathlib.Core.Path.{_≡_, refl, sym, _∙_, ap, subst}
-use mathlib.Core.Bool.{Bool, true, false, not}
-use mathlib.Core.Option.{Option, none, some}
+use mathlib.Core.Bool.{true, not}
+use mathlib.Core.Option.{none}
 use mathlib.Core.List.{List, [], _∷_, _++_}
-use native.Mathlib.Omega.{arith}
-use lib.ListN.{length, length-append}
-use Rattle.lists.proofs.Tests.{none-not-some}
 use Rattle.term.specs.Module.{checkModule}
-use Rattle.machine.specs.Laws.{Holds, WorkLaws}
-use Rattle.rules.specs.State.{Message, Letter, letter, Kind, seq, send, rec, spawn, self, check, Entry, Sizes, State, historyAt}
-use Rattle.rules.specs.Flight.{sends, sent}
+use Rattle.machine.specs.Laws.{WorkLaws}
+use Rattle.rules.specs.State.{Message, Kind, seq, send, rec, spawn, self, check, Sizes, State}
 use Rattle.rules.specs.Load.{loaded, goodSizes}
-use Rattle.rules.specs.Commands.{Command, step, spawnInto, deliver, back, undeliver, Deed, makes, undoes, delivers, undelivers, Move, apply, entry}
-use Rattle.rules.specs.Rules.{process, Does, forward, backward, sched, unsched, makingOf, commandOf}
-use Rattle.rules.specs.Independent.{IndependentDeeds}
+use Rattle.rules.specs.Commands.{Command, deliver, back, undeliver, Deed, undelivers, Move, apply}
+use Rattle.rules.specs.Rules.{Does, forward, backward, sched, unsched, makingOf, commandOf}
 use Rattle.rules.specs.Reverse.{undeliverOf, retake, redeliver, reverse, isForward}
 use Rattle.rules.specs.Sound.{Sound}
 use Rattle.rules.proofs.Histories.{nil-cons, no-suffix}
 use Rattle.rules.proofs.Frame.{history-of}
 use Rattle.rules.proofs.Undo.{Undo, undo-forward, undo-deliver, undo-undelivered, Backward}
-use Rattle.rules.proofs.Square.{square}
 use Rattle.rules.proofs.SoundControls.{LawsAt, laws-after}
 use Rattle.rules.proofs.SoundStep.{sound-after}
 use Rattle.rules.proofs.SoundLoad.{loaded-sound, load-had, load-history}
-use Rattle.rules.proofs.Knows.{Learnt, calm}
+use Rattle.rules.proofs.Knows.{Learnt}
 use Rattle.rules.proofs.Learn.{learnt-after}
 use Rattle.rules.proofs.Replay.{Told, told-after, redo}
 

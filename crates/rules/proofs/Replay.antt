@@ -1,31 +1,28 @@
 -- Histories replay: what was undone can be done again.
-use Prim.Native.Nat.{ℕ, suc, _<_, _≤_}
-use mathlib.Core.Path.{_≡_, refl, sym, _∙_, ap, subst}
-use mathlib.Core.Logic.{_≢_, _⊎_, inl, inr}
-use mathlib.Core.Bool.{true, false}
+use Prim.Native.Nat.{ℕ, _<_, _≤_}
+use mathlib.Core.Path.{_≡_, refl, sym, _∙_, ap}
+use mathlib.Core.Logic.{_⊎_, inl, inr}
 use mathlib.Core.Option.{Option, none, some}
 use mathlib.Core.List.{List, [], _∷_, _++_}
 use native.Mathlib.Omega.{arith}
 use lib.ListN.{length}
-use Rattle.lists.specs.Tables.{put}
 use Rattle.lists.proofs.Tables.{put-same, put-other, put-back}
-use Rattle.lists.proofs.Tests.{true-not-false, some-injective, none-not-some}
-use Rattle.machine.specs.Work.{Work, toSend, toReceive, toSpawn, work}
-use Rattle.rules.specs.State.{Message, Kind, send, rec, spawn, asSpawn, Entry, Process, State, historyAt, inPool}
+use Rattle.lists.proofs.Tests.{true-not-false}
+use Rattle.machine.specs.Work.{toSend, toReceive, toSpawn, work}
+use Rattle.rules.specs.State.{Message, Kind, send, rec, spawn, asSpawn, Entry, State, historyAt}
 use Rattle.rules.specs.Flight.{sends}
 use Rattle.rules.specs.Load.{newProcess}
-use Rattle.rules.specs.Commands.{Command, Deed, makes, undoes, Beside, nothing, other, Move, turn, setProcess, setQueue, setBeside, apply, Picked, picked, pick, entry}
-use Rattle.rules.specs.Rules.{process, InFlight, MakesAlone, by-seq, by-self, by-check, Makes, alone, by-send, by-receive, by-spawn, Alone, Undoes, undo-alone, undo-send, undo-receive, undo-spawn, Does, forward, backward, makingOf, commandOf}
+use Rattle.rules.specs.Commands.{Deed, makes, undoes, Beside, nothing, other, Move, turn, setProcess, setQueue, setBeside, apply, picked, pick, entry}
+use Rattle.rules.specs.Rules.{process, MakesAlone, Makes, alone, by-send, by-receive, by-spawn, Undoes, undo-alone, undo-send, undo-receive, undo-spawn, Does, forward, backward, makingOf, commandOf}
 use Rattle.rules.specs.Independent.{spawnsInto, unspawns, Apart}
 use Rattle.rules.specs.Sound.{Sound}
-use Rattle.rules.proofs.Views.{made-alone}
 use Rattle.rules.proofs.Messages.{pick-is}
-use Rattle.rules.proofs.Histories.{Suffix, suffix-top, suffix-length, nil-cons}
-use Rattle.rules.proofs.Frame.{turned, work-after, alone-after, same-module, same-sizes, state-path, in-pool, not-in-pool, history-of}
+use Rattle.rules.proofs.Histories.{Suffix, suffix-top, nil-cons}
+use Rattle.rules.proofs.Frame.{turned, work-after, alone-after, same-sizes, state-path, not-in-pool, history-of}
 use Rattle.rules.proofs.Deeds.{process-control, new-is-other}
 use Rattle.rules.proofs.Questions.{stays-live, spawns-free, flight-lives}
 use Rattle.rules.proofs.Undo.{Undo, put-back-two}
-use Rattle.rules.proofs.Positions.{New, suffix-was, Had, now, past, had-lives, Fresh, made, child, had-was}
+use Rattle.rules.proofs.Positions.{New, suffix-was, Had, now, had-lives, Fresh, made, child, had-was}
 use Rattle.rules.proofs.SoundFacts.{child-lives}
 
 -- p with the control makes an entry of the kind and has the next control, whatever the others do

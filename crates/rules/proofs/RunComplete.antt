@@ -1,21 +1,19 @@
 -- What a rule allows is accepted by `run`.
 use Prim.Native.Nat.{ℕ, _<_, _≤_}
-use mathlib.Core.Path.{_≡_, refl, sym, _∙_, ap, subst}
-use mathlib.Core.Bool.{Bool, true, false, not, _&&_}
-use mathlib.Core.Option.{Option, none, some}
+use mathlib.Core.Path.{_≡_, refl, _∙_, ap}
+use mathlib.Core.Bool.{not}
+use mathlib.Core.Option.{some}
 use mathlib.Core.List.{List, [], _∷_, _++_}
 use native.Mathlib.Omega.{arith}
-use lib.Dec.{leb, ltb}
 use lib.ListN.{length, length-append}
 use Rattle.lists.specs.Lists.{butLast}
 use Rattle.lists.proofs.Tests.{leb-of, ltb-of, and-of}
 use Rattle.lists.proofs.Lists.{butLast-before}
-use Rattle.machine.specs.Work.{work}
 use Rattle.rules.specs.Answers.{stuck, placeTaken, tooLarge, historyFull, noMessage, held}
-use Rattle.rules.specs.State.{Message, Letter, letter, Kind, Entry, Process, State, historyAt, inPool, sameQueue}
-use Rattle.rules.specs.Flight.{sends, sent, left, flies, awaited}
-use Rattle.rules.specs.Commands.{Command, Deed, makes, undoes, delivers, undelivers, Beside, nothing, ownQueue, other, Move, turn, post, Plan, accept, need, Picked, picked, pick, entry, making, receiving, stepping, spawning, undone, isNew, untouched, undoing, backing, undelivering, delivering, atProcess, run}
-use Rattle.rules.specs.Rules.{process, message, InFlight, MakesAlone, by-seq, by-self, by-check, Makes, alone, by-send, by-receive, by-spawn, Alone, seq-alone, self-alone, check-alone, Undoes, undo-alone, undo-send, undo-receive, undo-spawn, Does, forward, backward, sched, unsched, makingOf, commandOf}
+use Rattle.rules.specs.State.{Message, Kind, Entry, Process, State}
+use Rattle.rules.specs.Flight.{left}
+use Rattle.rules.specs.Commands.{Deed, makes, delivers, undelivers, Beside, Move, turn, post, accept, entry, making, receiving, stepping, spawning, undone, untouched, undoing, backing, undelivering, delivering, atProcess, run}
+use Rattle.rules.specs.Rules.{process, message, by-seq, by-self, by-check, Makes, alone, by-send, by-receive, by-spawn, seq-alone, self-alone, check-alone, undo-alone, undo-send, undo-receive, undo-spawn, Does, forward, backward, sched, unsched, makingOf, commandOf}
 use Rattle.rules.proofs.Messages.{queue-same}
 use Rattle.rules.proofs.Frame.{process-of, history-of}
 use Rattle.rules.proofs.Plans.{need-true, of-quiet, of-new}
@@ -26,15 +24,20 @@ unfolding making
 allowed s p control h {next} beside room size =
     need-true tooLarge _ (leb-of (length next) (s .sizes .words) size) ∙ need-true historyFull _ (ltb-of (length h) (s .sizes .entries) room)
 
+-- a rule that p could take is what its command comes to
+pub run-making : {s : State} {p : ℕ} {control next : List ℕ} {history : List Entry} {kind : Kind} {beside : Beside} → s .processes p ≡ some (process control history)
+    → Makes s p control kind next beside → run (makingOf p kind) s ≡ making s p (process control history) kind next beside
+unfolding run makingOf atProcess stepping receiving spawning
+run-making i (alone (by-seq e)) = rw (i, e) refl
+run-making i (alone (by-self e)) = rw (i, e) refl
+run-making i (alone (by-check e)) = rw (i, e) refl
+run-making i (by-send e live) = rw (i, e) (need-true stuck _ live)
+run-making i (by-receive e g) = rw (i, e, g) refl
+run-making {s} i (by-spawn {f} e below free) = rw (i, e) (need-true placeTaken _ (ltb-of f (s .sizes .places) below) ∙ need-true placeTaken _ (ap not free))
+
 pub run-complete : {s : State} {d : Deed} {w : Move} → Does s d w → run (commandOf d) s ≡ accept d w
-unfolding run commandOf makingOf atProcess stepping receiving spawning backing undoing undone untouched undelivering delivering
-run-complete {s} (forward {p} {control} {history} i (alone (by-seq e)) r z) = rw (i, e) (allowed s p control history nothing r z)
-run-complete {s} (forward {p} {control} {history} i (alone (by-self e)) r z) = rw (i, e) (allowed s p control history nothing r z)
-run-complete {s} (forward {p} {control} {history} i (alone (by-check e)) r z) = rw (i, e) (allowed s p control history nothing r z)
-run-complete {s} (forward {p} {control} {history} i (by-send e live) r z) = rw (i, e) (need-true stuck _ live ∙ allowed s p control history nothing r z)
-run-complete {s} (forward {p} {control} {history} i (by-receive {older} {newer} e g) r z) = rw (i, e, g) (allowed s p control history (ownQueue (older ++ newer)) r z)
-run-complete {s} (forward {p} {control} {history} i (by-spawn {f} e below free) r z) =
-    rw (i, e) (need-true placeTaken _ (ltb-of f (s .sizes .places) below) ∙ need-true placeTaken _ (ap not free) ∙ allowed s p control history _ r z)
+unfolding run commandOf atProcess backing undoing undone untouched undelivering delivering
+run-complete {s} (forward {p} {control} {history} {beside} i mk r z) = run-making i mk ∙ allowed s p control history beside r z
 run-complete (backward i (undo-alone seq-alone)) = rw i refl
 run-complete (backward i (undo-alone self-alone)) = rw i refl
 run-complete (backward i (undo-alone check-alone)) = rw i refl

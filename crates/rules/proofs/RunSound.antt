@@ -1,7 +1,7 @@
 -- What `run` accepts is a rule's, and by the command of its deed.
-use Prim.Native.Nat.{ℕ, _<_, _≤_}
-use mathlib.Core.Path.{_≡_, refl, sym, _∙_, ap}
-use mathlib.Core.Bool.{Bool, true, false, not, _&&_}
+use Prim.Native.Nat.{ℕ}
+use mathlib.Core.Path.{_≡_, refl, _∙_}
+use mathlib.Core.Bool.{not, _&&_}
 use mathlib.Core.Option.{Option, none, some}
 use mathlib.Core.List.{List, [], _∷_, _++_}
 use lib.Dec.{leb, ltb}
@@ -12,11 +12,10 @@ use Rattle.lists.proofs.Lists.{last-of}
 use Rattle.machine.specs.Work.{Work, toSeq, toSend, toReceive, toSpawn, toSelf, toCheck, work}
 use Rattle.machine.specs.Work
 use Rattle.rules.specs.Answers.{stuck, placeTaken, tooLarge, historyFull, noMessage, held}
-use Rattle.rules.specs.State.{Message, Letter, letter, Kind, seq, send, rec, spawn, self, check, asSend, Entry, Process, State, historyOf, historyAt, inPool, sameQueue}
+use Rattle.rules.specs.State.{Message, Letter, letter, Kind, seq, send, rec, spawn, self, check, asSend, Entry, Process, State, historyAt, inPool, sameQueue}
 use Rattle.rules.specs.Flight.{sends, sent, left, flies, awaited}
-use Rattle.rules.specs.Load.{newProcess}
-use Rattle.rules.specs.Commands.{Command, step, spawnInto, deliver, back, undeliver, Deed, makes, undoes, delivers, undelivers, Beside, nothing, ownQueue, other, Move, turn, post, Plan, refuse, accept, need, Picked, picked, pick, entry, making, receiving, stepping, spawning, undone, isNew, untouched, undoing, backing, undelivering, delivering, atProcess, run}
-use Rattle.rules.specs.Rules.{process, message, InFlight, MakesAlone, by-seq, by-self, by-check, Makes, alone, by-send, by-receive, by-spawn, Alone, seq-alone, self-alone, check-alone, Undoes, undo-alone, undo-send, undo-receive, undo-spawn, Does, forward, backward, sched, unsched, makingOf, commandOf}
+use Rattle.rules.specs.Commands.{Command, step, spawnInto, deliver, back, undeliver, Deed, Beside, Move, accept, Picked, picked, pick, entry, making, receiving, stepping, spawning, undone, isNew, untouched, undoing, backing, undelivering, delivering, atProcess, run}
+use Rattle.rules.specs.Rules.{process, by-seq, by-self, by-check, Makes, alone, by-send, by-receive, by-spawn, seq-alone, self-alone, check-alone, Undoes, undo-alone, undo-send, undo-receive, undo-spawn, Does, forward, backward, sched, unsched, makingOf, commandOf}
 use Rattle.rules.proofs.Messages.{same-queue}
 use Rattle.rules.proofs.Histories.{suffix-top, suffix-sent}
 use Rattle.rules.proofs.Frame.{in-pool, history-of}

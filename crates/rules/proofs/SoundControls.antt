@@ -1,28 +1,27 @@
 -- The controls and entries of a sound state stay sound, by the laws of one process step.
-use Prim.Native.Nat.{ℕ, suc, _<_, _≤_}
+use Prim.Native.Nat.{ℕ, _<_, _≤_}
 use mathlib.Core.Path.{_≡_, refl, sym, _∙_, ap, subst}
-use mathlib.Core.Logic.{_⊎_, inl, inr}
-use mathlib.Core.Bool.{true, false}
-use mathlib.Core.Option.{Option, none, some}
-use mathlib.Core.List.{List, [], _∷_, _++_}
+use mathlib.Core.Logic.{inl, inr}
+use mathlib.Core.Bool.{true}
+use mathlib.Core.Option.{some}
+use mathlib.Core.List.{List}
 use native.Mathlib.Decide.{decLt}
 use native.Mathlib.Omega.{arith}
 use lib.ListN.{length}
 use Rattle.lists.proofs.Tests.{true-not-false, none-not-some, some-injective}
 use Rattle.term.specs.Control.{goodControl, moduleArities}
-use Rattle.machine.specs.Work.{toSend, work}
+use Rattle.machine.specs.Work.{work}
 use Rattle.machine.specs.Laws.{Good, GoodValue, WorkLaws}
-use Rattle.rules.specs.State.{Message, Letter, letter, Kind, asSend, asCheck, Entry, Process, State, historyAt, entryAt, inPool}
-use Rattle.rules.specs.Flight.{taken}
+use Rattle.rules.specs.State.{Message, letter, Kind, asSend, asCheck, Entry, Process, State, historyAt, entryAt}
 use Rattle.rules.specs.Commands.{Deed, makes, Beside, Move, apply, entry}
-use Rattle.rules.specs.Rules.{process, MakesAlone, by-seq, by-self, by-check, Makes, alone, by-send, by-receive, by-spawn, Does}
+use Rattle.rules.specs.Rules.{process, by-seq, by-self, by-check, Makes, alone, by-send, by-receive, by-spawn, Does}
 use Rattle.rules.specs.Sound.{SoundControl, AboutToSend, SentTo, Sound}
 use Rattle.rules.proofs.Views.{made-alone, alone-send}
-use Rattle.rules.proofs.Messages.{Any, Is, any-middle, pick-is, pick-takes}
-use Rattle.rules.proofs.Histories.{Suffix, suffix-entry, entry-suffix, sent-suffix}
+use Rattle.rules.proofs.Messages.{Is, any-middle, pick-is, pick-takes}
+use Rattle.rules.proofs.Histories.{suffix-entry, entry-suffix, sent-suffix}
 use Rattle.rules.proofs.Frame.{turned, same-module, same-sizes, in-pool}
 use Rattle.rules.proofs.Questions.{Among}
-use Rattle.rules.proofs.Positions.{New, suffix-was, Had, now, past, Fresh, made, child, had-was}
+use Rattle.rules.proofs.Positions.{suffix-was, Had, now, past, Fresh, made, child, had-was}
 use Rattle.rules.proofs.SoundFacts.{mail}
 
 -- the laws of one process step, in the state's module

@@ -1,17 +1,16 @@
 -- What the proofs read off a sound state.
-use Prim.Native.Nat.{ℕ, suc, _<_, _≤_}
-use mathlib.Core.Path.{_≡_, refl, sym, _∙_, ap, subst, subst₂}
-use mathlib.Core.Logic.{_⊎_, inl, inr}
-use mathlib.Core.Bool.{true, false}
+use Prim.Native.Nat.{ℕ, _≤_}
+use mathlib.Core.Path.{_≡_, refl, ap, subst₂}
+use mathlib.Core.Logic.{inl, inr}
+use mathlib.Core.Bool.{true}
 use mathlib.Core.Option.{Option, none, some}
 use mathlib.Core.List.{List, [], _∷_, _++_}
 use native.Mathlib.Omega.{arith}
 use lib.ListN.{length, length-append}
-use Rattle.lists.specs.Lists.{All}
-use Rattle.rules.specs.State.{Message, Letter, letter, Taking, taking, asSend, asRec, asSpawn, Entry, State, historyAt, inPool}
+use Rattle.rules.specs.State.{Message, letter, Taking, taking, asRec, asSpawn, Entry, State, historyAt, inPool}
 use Rattle.rules.specs.Flight.{sent, taken, leftOr, left}
 use Rattle.rules.specs.Sound.{SentTo, Prefix, Flows, SpawnedBy, Sound}
-use Rattle.rules.proofs.Messages.{Any, Is, any-left, any-right, any-find, all-at, Named}
+use Rattle.rules.proofs.Messages.{Is, any-left, any-right, any-find, all-at, Named}
 use Rattle.rules.proofs.Histories.{Suffix, suffix-entry}
 use Rattle.rules.proofs.Questions.{Among, Came}
 

@@ -1,28 +1,25 @@
 -- A load is sound.
-use Prim.Native.Nat.{ℕ, suc, _<_, _≤_}
+use Prim.Native.Nat.{ℕ, _≤_}
 use mathlib.Core.Path.{_≡_, refl, sym, _∙_, ap, subst}
 use mathlib.Core.Logic.{_⊎_, inl, inr}
 use mathlib.Core.Bool.{Bool, true, false, _&&_}
 use mathlib.Core.Option.{Option, none, some}
-use mathlib.Core.List.{List, [], _∷_, _++_}
+use mathlib.Core.List.{List, []}
 use native.Mathlib.Decide.{ℕ-discrete}
 use native.Mathlib.Omega.{arith}
 use lib.Dec.{leb}
-use lib.ListN.{length}
 use Rattle.lists.specs.Lists.{All}
-use Rattle.lists.specs.Tables.{put}
 use Rattle.lists.proofs.Tables.{put-same, put-other}
 use Rattle.lists.proofs.Tests.{true-not-false, none-not-some, some-injective, leb-true, and-left, and-right}
 use Rattle.term.specs.Module.{checkModule}
 use Rattle.machine.specs.Laws.{Good, WorkLaws}
 use Rattle.rules.specs.Answers.{badModule, badSizes}
-use Rattle.rules.specs.State.{Sizes, Entry, Process, State, historyOf, historyAt, entryAt, isProcess, inPool}
+use Rattle.rules.specs.State.{Sizes, Entry, State, historyOf, historyAt, entryAt, isProcess, inPool}
 use Rattle.rules.specs.Flight.{sent, taken}
 use Rattle.rules.specs.Load.{goodSizes, newProcess, firstControl, loaded, Load, refused, loads, load}
-use Rattle.rules.specs.Rules.{process}
-use Rattle.rules.specs.Sound.{SoundControl, distinct, Flows, SpawnedBy, Sound}
-use Rattle.rules.proofs.Histories.{Suffix, no-suffix, entry-suffix, nil-cons}
-use Rattle.rules.proofs.Frame.{no-process, in-pool, not-in-pool}
+use Rattle.rules.specs.Sound.{SoundControl, distinct, Flows, Sound}
+use Rattle.rules.proofs.Histories.{no-suffix, entry-suffix}
+use Rattle.rules.proofs.Frame.{in-pool, not-in-pool}
 use Rattle.rules.proofs.Positions.{Had, now, past}
 
 -- what sizes that pass say: a place at least, no more than 16, and room for the first control

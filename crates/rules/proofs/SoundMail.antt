@@ -1,28 +1,26 @@
 -- Messages of a sound state stay sound: each stands once at most, was sent, and queues keep what recs left as prefixes.
-use Prim.Native.Nat.{ℕ, suc, _<_, _≤_}
+use Prim.Native.Nat.{ℕ, _<_}
 use mathlib.Core.Path.{_≡_, refl, sym, _∙_, ap, subst, subst₂}
-use mathlib.Core.Logic.{_≢_, _⊎_, inl, inr}
+use mathlib.Core.Logic.{_⊎_, inl, inr}
 use mathlib.Core.Bool.{true, false}
 use mathlib.Core.Option.{Option, none, some}
 use mathlib.Core.List.{List, [], _∷_, _++_, append-nil, append-assoc}
 use native.Mathlib.Omega.{arith}
-use lib.ListN.{length, length-append}
+use lib.ListN.{length}
 use Rattle.lists.specs.Lists.{All}
-use Rattle.lists.specs.Tables.{put}
-use Rattle.lists.proofs.Tables.{put-same, put-other}
+use Rattle.lists.proofs.Tables.{put-same}
 use Rattle.lists.proofs.Tests.{true-not-false, true-or-false, none-not-some, some-injective}
-use Rattle.rules.specs.State.{Message, Letter, letter, Taking, taking, Kind, send, asSend, asRec, asSpawn, Entry, Process, State, historyOf, historyAt, inPool}
+use Rattle.rules.specs.State.{Message, letter, Taking, taking, asSend, asRec, Entry, State, historyOf, historyAt, inPool}
 use Rattle.rules.specs.Flight.{sends, sent, alsoTaken, taken, leftOr, left}
-use Rattle.rules.specs.Commands.{Deed, makes, undoes, delivers, undelivers, Beside, Move, turn, post, setProcess, setQueue, setBeside, apply, entry}
-use Rattle.rules.specs.Rules.{process, message, InFlight, Makes, alone, by-send, by-receive, by-spawn, Undoes, undo-alone, undo-send, undo-receive, undo-spawn, Does, forward, backward, sched, unsched}
-use Rattle.rules.specs.Independent.{Apart, actor, mailbox, ifRec, receiver, unspawns, Unsends}
+use Rattle.rules.specs.Commands.{Deed, makes, undoes, delivers, undelivers, Move, setProcess, setQueue, setBeside, apply}
+use Rattle.rules.specs.Rules.{process, message, alone, by-send, by-receive, by-spawn, undo-alone, undo-send, undo-receive, undo-spawn, Does, forward, backward, sched, unsched}
+use Rattle.rules.specs.Independent.{Apart, mailbox, ifRec, receiver, unspawns, Unsends}
 use Rattle.rules.specs.Sound.{distinct, SentTo, Prefix, Flows, Sound}
 use Rattle.rules.proofs.Views.{made-alone, alone-send, alone-rec}
-use Rattle.rules.proofs.Messages.{Any, here, there, Is, any-append, any-left, any-right, any-map, any-none, all-of, Named, pick-is, Once, once-of, of-once, once-in, once-out, once-take, once-give}
-use Rattle.rules.proofs.Histories.{sent-suffix}
-use Rattle.rules.proofs.Frame.{Turned, same, grown, shrunk, turned, keep-queue, no-process, in-pool, history-of}
+use Rattle.rules.proofs.Messages.{Is, any-append, any-map, any-none, all-of, Named, pick-is, Once, once-of, of-once, once-in, once-out, once-take, once-give}
+use Rattle.rules.proofs.Frame.{Turned, same, grown, shrunk, turned, keep-queue, in-pool, history-of}
 use Rattle.rules.proofs.Deeds.{target, unspawning, sending}
-use Rattle.rules.proofs.Questions.{Among, Came, Posts, flight-of, flight-lives, flight-fresh, at?, among-was, stays-live, stays-free, free-acts, sent-stays, sent-was, taken-stays, no-rec}
+use Rattle.rules.proofs.Questions.{Among, Came, Posts, flight-of, flight-lives, flight-fresh, at?, among-was, stays-live, free-acts, sent-stays, sent-was, taken-stays, no-rec}
 use Rattle.rules.proofs.Square.{receiver-apart}
 use Rattle.rules.proofs.SoundFacts.{FlowsBy, mail}
 

@@ -1,22 +1,21 @@
 -- The pool and the spawns of a sound state stay sound.
-use Prim.Native.Nat.{ℕ, suc, _<_, _≤_}
+use Prim.Native.Nat.{ℕ, _<_, _≤_}
 use mathlib.Core.Path.{_≡_, refl, sym, _∙_, ap, subst}
-use mathlib.Core.Logic.{_≢_, _⊎_, inl, inr}
+use mathlib.Core.Logic.{_⊎_, inl, inr}
 use mathlib.Core.Bool.{true, false}
-use mathlib.Core.Option.{Option, none, some}
-use mathlib.Core.List.{List, [], _∷_}
+use mathlib.Core.Option.{some}
+use mathlib.Core.List.{List, _∷_}
 use native.Mathlib.Omega.{arith}
 use lib.ListN.{length}
-use Rattle.lists.proofs.Tests.{true-not-false, true-or-false, some-injective}
+use Rattle.lists.proofs.Tests.{true-not-false, true-or-false}
 use Rattle.rules.specs.State.{Kind, spawn, asSpawn, Entry, State, historyAt, entryAt, inPool}
-use Rattle.rules.specs.Flight.{sends}
-use Rattle.rules.specs.Commands.{Deed, makes, undoes, Move, apply, entry}
-use Rattle.rules.specs.Rules.{process, Does, forward, backward, sched, unsched}
+use Rattle.rules.specs.Commands.{Deed, makes, Move, apply, entry}
+use Rattle.rules.specs.Rules.{process, Does, forward}
 use Rattle.rules.specs.Independent.{Apart, spawnsInto, unspawns}
 use Rattle.rules.specs.Sound.{SpawnedBy, Sound}
 use Rattle.rules.proofs.Histories.{Suffix, suffix-top, suffix-length, suffix-entry, entry-suffix}
-use Rattle.rules.proofs.Frame.{Turned, same, grown, shrunk, turned, same-sizes, in-pool, not-in-pool, history-of}
-use Rattle.rules.proofs.Deeds.{Spawning, spawning, Unspawning, unspawning, process-history}
+use Rattle.rules.proofs.Frame.{Turned, same, grown, shrunk, turned, same-sizes, not-in-pool}
+use Rattle.rules.proofs.Deeds.{spawning, Unspawning, unspawning, process-history}
 use Rattle.rules.proofs.Questions.{at?, stays-live, stays-free, spawns-free, spawns-live}
 use Rattle.rules.proofs.Positions.{New, suffix-was, suffix-stays}
 use Rattle.rules.proofs.SoundFacts.{spawned-once, child-lives}

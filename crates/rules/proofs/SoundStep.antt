@@ -1,7 +1,5 @@
 -- Sound stays sound: an accepted command takes a sound state to a sound state.
-use mathlib.Core.Path.{_≡_, sym, ap, subst, _∙_}
-use mathlib.Core.Bool.{true}
-use mathlib.Core.Option.{none}
+use mathlib.Core.Path.{ap, _∙_}
 use Rattle.term.specs.Module.{checkModule}
 use Rattle.rules.specs.State.{State}
 use Rattle.rules.specs.Load.{goodSizes}

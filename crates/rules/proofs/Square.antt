@@ -1,23 +1,18 @@
 -- Two independent accepted commands commute.
-use Prim.Native.Nat.{ℕ, suc, _<_}
-use mathlib.Core.Path.{_≡_, refl, sym, _∙_, ap, subst, fun-ext}
-use mathlib.Core.Logic.{_≢_, _⊎_, inl, inr}
-use mathlib.Core.Bool.{true, false}
+use Prim.Native.Nat.{ℕ}
+use mathlib.Core.Path.{_≡_, refl, sym, _∙_, ap, fun-ext}
+use mathlib.Core.Logic.{_⊎_, inl, inr}
 use mathlib.Core.Option.{Option, none, some}
-use mathlib.Core.List.{List, [], _∷_, _++_}
-use native.Mathlib.Decide.{ℕ-discrete}
-use native.Mathlib.Omega.{arith}
-use lib.ListN.{length}
+use mathlib.Core.List.{List, []}
 use Rattle.lists.specs.Tables.{put}
-use Rattle.lists.proofs.Tests.{none-not-some, some-injective}
-use Rattle.machine.specs.Work.{work}
-use Rattle.rules.specs.State.{Message, Letter, letter, Taking, Kind, asSend, asRec, asSpawn, Entry, Process, State, historyAt, inPool}
-use Rattle.rules.specs.Flight.{sends, sent, taken, left}
+use Rattle.lists.proofs.Tests.{none-not-some}
+use Rattle.rules.specs.State.{letter, Taking, Kind, asSend, asRec, asSpawn, State, historyAt}
+use Rattle.rules.specs.Flight.{sent, taken}
 use Rattle.rules.specs.Load.{newProcess}
 use Rattle.rules.specs.Commands.{Deed, makes, undoes, delivers, undelivers, Beside, nothing, ownQueue, other, Move, turn, post, setProcess, setQueue, setBeside, apply, pick}
-use Rattle.rules.specs.Rules.{InFlight, MakesAlone, by-seq, by-self, by-check, Makes, alone, by-send, by-receive, by-spawn, Undoes, undo-alone, undo-send, undo-receive, undo-spawn, Does, forward, backward, sched, unsched}
+use Rattle.rules.specs.Rules.{InFlight, Makes, alone, by-send, by-receive, by-spawn, Undoes, undo-alone, undo-send, undo-receive, undo-spawn, Does, forward, backward, sched, unsched}
 use Rattle.rules.specs.Independent.{Apart, actor, mailbox, actsAt, ifRec, receiver, spawnsInto, unspawns, Unsends, Crossed, IndependentDeeds}
-use Rattle.rules.proofs.Messages.{Any, any-none}
+use Rattle.rules.proofs.Messages.{any-none}
 use Rattle.rules.proofs.Frame.{work-after, alone-after, state-path, same-module, same-sizes, turned, keep-process, keep-queue, in-pool, history-of}
 use Rattle.rules.proofs.Deeds.{target, targetOf, unspawning}
 use Rattle.rules.proofs.Questions.{Came, flight-lives, flight-fresh, flight-of, at?, actor-live, unspawns-live, spawns-free, stays-live, stays-free, own, live-spawns, free-acts, free-unspawns, came-was, sent-stays, sent-was, left-stays}

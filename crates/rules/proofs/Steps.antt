@@ -1,14 +1,12 @@
 -- Steps of `run` as states: what an accepted command did, and that the rules' deeds are accepted.
-use Prim.Native.Nat.{ℕ}
 use mathlib.Core.Path.{_≡_, refl, sym, _∙_, ap, subst, subst₂}
 use mathlib.Core.Logic.{_≢_}
-use mathlib.Core.Bool.{Bool, true, false}
-use mathlib.Core.Option.{Option, none, some}
+use mathlib.Core.Bool.{true, false}
+use mathlib.Core.Option.{some}
 use Rattle.lists.proofs.Tests.{true-not-false, none-not-some, some-injective}
-use Rattle.causal.specs.Exec.{Step}
 use Rattle.rules.specs.State.{State}
 use Rattle.rules.specs.Commands.{Command, Deed, makes, undoes, delivers, undelivers, Move, apply, Plan, refuse, accept, run, afterPlan, runState}
-use Rattle.rules.specs.Rules.{Does, makingOf, commandOf}
+use Rattle.rules.specs.Rules.{Does, commandOf}
 use Rattle.rules.specs.Independent.{IndependentDeeds, Independent}
 use Rattle.rules.specs.Reverse.{isForward}
 use Rattle.rules.proofs.Plans.{PoolEnds}

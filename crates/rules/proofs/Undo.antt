@@ -1,5 +1,5 @@
 -- In every sound state: what was done can be undone, what was undelivered can be delivered again, and two undos are independent.
-use Prim.Native.Nat.{ℕ, suc, _<_, _≤_, _+_}
+use Prim.Native.Nat.{ℕ, _<_}
 use mathlib.Core.Path.{_≡_, refl, sym, _∙_, ap, fun-ext}
 use mathlib.Core.Logic.{_≢_, _⊎_, inl, inr}
 use mathlib.Core.Bool.{true, false}
@@ -10,19 +10,18 @@ use native.Mathlib.Omega.{arith}
 use lib.ListN.{length, length-append}
 use Rattle.lists.specs.Tables.{put}
 use Rattle.lists.proofs.Tables.{put-same, put-other, put-back}
-use Rattle.lists.proofs.Tests.{true-not-false, none-not-some, some-injective}
-use Rattle.rules.specs.State.{Message, Letter, letter, Taking, taking, Kind, send, spawn, asSend, asRec, asSpawn, Entry, Process, State, historyOf, historyAt, inPool}
-use Rattle.rules.specs.Flight.{sends, sent, letterOr, taken, leftOr, left}
-use Rattle.rules.specs.Load.{newProcess}
-use Rattle.rules.specs.Commands.{Command, step, spawnInto, deliver, back, undeliver, Deed, makes, undoes, delivers, undelivers, Beside, nothing, Move, turn, post, setProcess, setQueue, setBeside, apply, entry}
-use Rattle.rules.specs.Rules.{process, message, InFlight, Makes, alone, by-send, by-receive, by-spawn, Undoes, undo-alone, undo-send, undo-receive, undo-spawn, Does, forward, backward, sched, unsched, makingOf, commandOf}
+use Rattle.lists.proofs.Tests.{true-not-false, none-not-some}
+use Rattle.rules.specs.State.{Message, letter, Kind, send, spawn, asSend, asRec, asSpawn, Entry, State, historyOf, historyAt, inPool}
+use Rattle.rules.specs.Flight.{sends, sent, taken, leftOr, left}
+use Rattle.rules.specs.Commands.{Command, deliver, back, undeliver, Deed, makes, undoes, delivers, undelivers, Beside, nothing, Move, turn, post, setProcess, setQueue, setBeside, apply, entry}
+use Rattle.rules.specs.Rules.{process, message, InFlight, alone, by-send, by-receive, by-spawn, Undoes, undo-alone, undo-send, undo-receive, undo-spawn, Does, forward, backward, sched, unsched, commandOf}
 use Rattle.rules.specs.Independent.{Apart, actor, mailbox, actsAt, ifRec, receiver, spawnsInto, unspawns, Unsends, Crossed, IndependentDeeds}
 use Rattle.rules.specs.Sound.{SentTo, Sound}
 use Rattle.rules.proofs.Views.{made-alone, alone-rec, alone-spawn}
-use Rattle.rules.proofs.Messages.{Any, Is, any-left, any-right, any-middle, Named, pick-is, Once, once-of, once-out}
+use Rattle.rules.proofs.Messages.{Any, any-left, any-right, any-middle, Named, pick-is, once-of, once-out}
 use Rattle.rules.proofs.Histories.{sent-below, below-not-same, letter-own}
-use Rattle.rules.proofs.Frame.{state-path, turned, no-process, in-pool, history-of}
-use Rattle.rules.proofs.Deeds.{target, targetOf, process-history, new-is-other, unspawning}
+use Rattle.rules.proofs.Frame.{state-path, turned, no-process, in-pool}
+use Rattle.rules.proofs.Deeds.{target, targetOf, new-is-other}
 use Rattle.rules.proofs.Questions.{Came, flight-of, flight-lives, stays-live, came-was, sent-was}
 use Rattle.rules.proofs.Square.{apart-sym, independent-sym}
 use Rattle.rules.proofs.SoundFacts.{mail, mail-named, left-fits}

@@ -22,7 +22,6 @@ pub data Command : Type 0 where
   deliver : (s k : ℕ) → Command
   back : (p : ℕ) → Command
   undeliver : (p : ℕ) → Command
-  deriving Discrete as Command-discrete
 
 -- what an accepted command does: p makes an entry; p's newest entry, with so many sends before it, is undone; message s.k comes to t; the
 -- newest message of t's queue goes back

@@ -1,7 +1,7 @@
 -- What is demanded of the rules, and nothing else: sound states stay sound, every step can be undone and retaken, independent steps
 -- commute, and runs are causally consistent. Each statement is shown by its name in proofs/Demands.
 -- Assumes nothing: these are definitions.
-use Prim.Native.Nat.{ℕ, _≤_, _+_}
+use Prim.Native.Nat.{ℕ, _+_}
 use mathlib.Core.Path.{_≡_}
 use mathlib.Core.Logic.{_≢_, _⊎_, _↔_}
 use mathlib.Core.Bool.{true, false}
@@ -12,13 +12,14 @@ use Rattle.lists.specs.Lists.{keep}
 use Rattle.causal.specs.Paths.{Turns}
 use Rattle.causal.specs.Causal.{Parabola, ForwardOnly}
 use Rattle.causal.specs.Exec.{Step, runAll}
-use Rattle.rules.specs.State.{Message, Letter, letter, Sizes, State, historyAt, isNamed}
+use Rattle.rules.specs.State.{letter, Sizes, State, historyAt, isNamed}
 use Rattle.rules.specs.Flight.{sent, taken, flies}
 use Rattle.rules.specs.Load.{loads, load}
-use Rattle.rules.specs.Commands.{Command, undeliver, Deed, Move, accept, run, runState}
+use Rattle.rules.specs.Commands.{Command, undeliver, Deed, Move, refuse, accept, run, runState}
 use Rattle.rules.specs.Sound.{Sound}
 use Rattle.rules.specs.Independent.{Independent}
 use Rattle.rules.specs.Rules.{Does, commandOf}
+use Rattle.rules.specs.Refusals.{Refused}
 use Rattle.rules.specs.Reverse.{reverse, isForward, amountDone}
 
 -- a state reached from a load: accepted commands lead there
@@ -49,10 +50,12 @@ pub record Commute (s : State) (t u : Command) : Type 0 where
   pub u-first : runState u s ≡ some after-u
   pub then-t : runState t after-u ≡ some end
 
--- "000 .. gives the rules": a command is accepted exactly where a rule allows its deed.
+-- "Each step, forward or back, follows "A theory of reversibility for Erlang" in 01's form and is refused exactly where 01 says": a
+-- command is accepted exactly where a rule allows its deed, and is refused with a number exactly where 01's table and order give it.
 pub record AreTheRules : Type 0 where
   pub accepted-is-allowed : (s : State) (c : Command) (d : Deed) (w : Move) → Sound s → run c s ≡ accept d w → Does s d w × (commandOf d ≡ c)
   pub allowed-is-accepted : (s : State) (d : Deed) (w : Move) → Does s d w → run (commandOf d) s ≡ accept d w
+  pub refused-is-listed : (s : State) (c : Command) (n : ℕ) → Sound s → (run c s ≡ refuse n) ↔ Refused s c n
 
 pub record StaysSound : Type 0 where
   -- a load is sound, an accepted command takes a sound state to a sound state, ..
@@ -63,8 +66,7 @@ pub record StaysSound : Type 0 where
   -- "its message stands exactly once in flight, the target's queue and the messages the target's recs took, taken together"
   pub exactly-once : (st : State) (s k t : ℕ) (value : List ℕ) → Sound st → sent (historyAt st s) k ≡ some (letter t value) → ExactlyOnce st s k t
 
--- Demand 2, single steps: undoing the step just taken gives the earlier state exactly; retaking, by its own command, the step just undone
--- gives the state back exactly.
+-- "After a load, undoing the step just taken, or retaking the step just undone, gives the earlier state exactly."
 pub record StepsReverse : Type 0 where
   -- in every sound state: a step, spawn or delivery just taken is undone, ..
   pub undone : (s a : State) (c : Command) → Sound s → isForward c ≡ true → runState c s ≡ some a → runState (reverse s c) a ≡ some s
@@ -86,9 +88,9 @@ pub record IndependentCommute : Type 0 where
   pub undos-commute : (s a b : State) (t u : Command) → Sound s → isForward t ≡ false → isForward u ≡ false → t ≢ u
       → runState t s ≡ some a → runState u s ≡ some b → Commute s t u
 
--- Demand 3: from a state reached from a load two accepted sequences of commands end in equal states exactly when one turns into the other
--- by exchanging neighbours t, u "when u is accepted before t and the two are independent there", and by removing or inserting a step
--- followed at once by its reverse, every sequence on the way accepted.
+-- "Two accepted sequences of single steps from one state reached from a load end in equal states exactly when one turns into the other by
+-- exchanging independent neighbours and removing or inserting a step with its reverse." `Turns` is a chain of such changes, every sequence
+-- on the way accepted; "Neighbours t, u may be exchanged when u is accepted before t and the two are independent there."
 pub record CausallyConsistent : Type 0 where
   pub consistent : (s a b : State) (ts us : List Command) → Reachable s → runAll runState ts s ≡ some a → runAll runState us s ≡ some b
       → (a ≡ b) ↔ Turns (Step runState) reverse Independent s ts us

@@ -4,6 +4,7 @@ pub mod Flight
 pub mod Load
 pub mod Commands
 pub mod Rules
+pub mod Refusals
 pub mod Reverse
 pub mod Sound
 pub mod Independent
@@ -19,3 +20,4 @@ pub mod Cases
 pub mod RollbackCases
 pub mod Demands
 pub mod RollbackDemands
+pub mod Limits

@@ -8,10 +8,10 @@ use mathlib.Core.Option.{Option, none, some}
 use mathlib.Core.List.{List, [], _∷_, _++_}
 use lib.ListN.{length}
 use Rattle.machine.specs.Work.{toSeq, toSend, toReceive, toSpawn, toSelf, toCheck, work}
-use Rattle.rules.specs.State.{Message, Letter, letter, Kind, seq, send, rec, spawn, self, check, Entry, Process, State, historyAt, inPool}
+use Rattle.rules.specs.State.{Message, letter, Kind, seq, send, rec, spawn, self, check, Entry, Process, State, historyAt, inPool}
 use Rattle.rules.specs.Flight.{sends, sent, left, flies}
 use Rattle.rules.specs.Load.{newProcess}
-use Rattle.rules.specs.Commands.{Command, step, spawnInto, deliver, back, undeliver, Deed, makes, undoes, delivers, undelivers, Beside, nothing, ownQueue, other, Move, turn, post, Picked, picked, pick, entry}
+use Rattle.rules.specs.Commands.{Command, step, spawnInto, deliver, back, undeliver, Deed, makes, undoes, delivers, undelivers, Beside, nothing, ownQueue, other, Move, turn, post, picked, pick, entry}
 
 abbrev pub process : List ℕ → List Entry → Process
 process control history = record { control = control; history = history }

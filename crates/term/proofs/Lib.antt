@@ -9,3 +9,12 @@ pub mod ShapeLaws
 pub mod Keep
 pub mod KeepLaws
 pub mod ReadingLaws
+pub mod MarkLaws
+pub mod StandLaws
+pub mod BindLaws
+pub mod WalkLaws
+pub mod ControlLaws
+pub mod ModuleLaws
+pub mod FunctionLaws
+pub mod RuleLaws
+pub mod CheckLaws

@@ -11,4 +11,6 @@ pub mod Value
 pub mod Kinds
 pub mod Rows
 pub mod Reading
+pub mod Walking
+pub mod Checking
 pub mod Cases

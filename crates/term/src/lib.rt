@@ -1,4 +1,7 @@
 // Terms in rows of words: the table of the 18 tags, reading, the module check and the control check.
+pub mod binding;
+pub mod control;
+pub mod module;
 pub mod shape;
 pub mod tables;
 pub mod terms;

@@ -1,0 +1,1 @@
+// Definitions only: see specs/ and proofs/.
