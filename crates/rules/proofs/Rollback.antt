@@ -81,15 +81,15 @@ newest-low t (x ∷ h) {i} e = elim (true-or-false (isCheck t (asCheck (x .kind)
 ]
 
 -- ---- rollback
-rollback-away : (p t : ℕ) (s : State) → inPool s p ≡ false → rollback p t s ≡ refused noProcess
+pub rollback-away : (p t : ℕ) (s : State) → inPool s p ≡ false → rollback p t s ≡ refused noProcess
 unfolding rollback
 rollback-away p t s e = rw (e, rollback) refl
 
-rollback-without : (p t : ℕ) (s : State) → inPool s p ≡ true → newestCheck t (historyAt s p) ≡ none → rollback p t s ≡ refused noCheckpoint
+pub rollback-without : (p t : ℕ) (s : State) → inPool s p ≡ true → newestCheck t (historyAt s p) ≡ none → rollback p t s ≡ refused noCheckpoint
 unfolding rollback
 rollback-without p t s e i = rw (e, rollback, i) refl
 
-rollback-at : (p t : ℕ) (s : State) {i : ℕ} → inPool s p ≡ true → newestCheck t (historyAt s p) ≡ some i → rollback p t s ≡ undoTo s (cutBefore s (event (entriesOf p) i))
+pub rollback-at : (p t : ℕ) (s : State) {i : ℕ} → inPool s p ≡ true → newestCheck t (historyAt s p) ≡ some i → rollback p t s ≡ undoTo s (cutBefore s (event (entriesOf p) i))
 unfolding rollback
 rollback-at p t s e i = rw (e, rollback, i) refl
 

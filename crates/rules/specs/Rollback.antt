@@ -48,9 +48,9 @@ pub data Rollback (s : State) (p t : ℕ) : ℕ → ℕ → State → Type 0 whe
   no-check : inPool s p ≡ true → newestCheck t (historyAt s p) ≡ none → Rollback s p t noCheckpoint 0 s
   no-process : inPool s p ≡ false → Rollback s p t noProcess 0 s
 
--- The same, computed. What depends on an event of a line are later events too, so the set takes the newest events of each line: it is a
--- cut, which says how many events of each line stay. That this gives the answer which `Rollback` allows, and the only one, is the theorem
--- `rollback-is` of RollbackDemands.
+-- The same, computed. Later events of a line depend on the earlier ones, so the set takes the newest events of each line: it is a cut,
+-- which says how many events of each line stay. That this gives the answer which `Rollback` allows, and the only one, is the statement
+-- `RollbackIsExact` of RollbackDemands.
 
 abbrev pub Cut : Type 0
 Cut = Line → ℕ
