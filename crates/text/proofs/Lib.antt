@@ -1,0 +1,4 @@
+pub mod WritingLaws
+pub mod PieceLaws
+pub mod NumberLaws
+pub mod CommandLaws

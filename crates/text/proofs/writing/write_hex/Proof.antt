@@ -1,0 +1,23 @@
+use Rattle.rules.specs.Text.{hex}
+use borrow.Author.Needs.{needs}
+use Rattle.text.proofs.writing.write_hex.Statement.{statement}
+use Rattle.text.proofs.writing.write_hex.Tie as tie
+use Rattle.text.proofs.writing.write_hex.Reads as reads
+use Rattle.text.proofs.writing.write_hex.Lts as lts
+use Rattle.text.proofs.writing.write_digits.Reads as write-digits-reads
+
+-- src/writing.rt:93:5
+write-digits-requires : tie.Need-write-digits-requires
+write-digits-requires c κs = search needs
+
+-- src/writing.rt:90:1
+same-length : tie.Need-same-length
+same-length c = search needs
+
+-- src/writing.rt:90:1
+returns : tie.Need-returns
+unfolding hex
+returns c = search needs
+
+pub write-hex-spec : {M : Type 1} → statement M
+write-hex-spec = tie.close (tie.spec write-digits-requires same-length returns)
