@@ -38,15 +38,15 @@ digit-in : (b : ℕ) → 48 ≤ b → b ≤ 57 → (leb zeroDigit b && leb b (ze
 digit-in b h g = and-of (leb-of zeroDigit b h) (leb-of b (zeroDigit + 9) g)
 
 -- digits after digits: too large already, a byte that is no digit, one digit more, none left
-say-not : (n b : ℕ) (bs : List ℕ) → (leb zeroDigit b && leb b (zeroDigit + 9)) ≡ false → digitsSay n (b ∷ bs) ≡ none
+pub say-not : (n b : ℕ) (bs : List ℕ) → (leb zeroDigit b && leb b (zeroDigit + 9)) ≡ false → digitsSay n (b ∷ bs) ≡ none
 unfolding digitsSay
 say-not n b bs e = rw (e, digitsSay) refl
 
-say-digit : (n b : ℕ) (bs : List ℕ) → (leb zeroDigit b && leb b (zeroDigit + 9)) ≡ true → digitsSay n (b ∷ bs) ≡ digitsSay (n * 10 + (b - zeroDigit)) bs
+pub say-digit : (n b : ℕ) (bs : List ℕ) → (leb zeroDigit b && leb b (zeroDigit + 9)) ≡ true → digitsSay n (b ∷ bs) ≡ digitsSay (n * 10 + (b - zeroDigit)) bs
 unfolding digitsSay
 say-digit n b bs e = rw (e, digitsSay) refl
 
-say-large : (n : ℕ) (bs : List ℕ) → 255 < n → ofByte (digitsSay n bs) ≡ none
+pub say-large : (n : ℕ) (bs : List ℕ) → 255 < n → ofByte (digitsSay n bs) ≡ none
 unfolding digitsSay ofByte
 say-large n [] h = rw (leb-over n 255 h) refl
 say-large n (b ∷ bs) h = elim (true-or-false (leb zeroDigit b && leb b (zeroDigit + 9))) [
@@ -148,13 +148,13 @@ module _ (request : ℕ → ℕ → Request) where
   two-pieces x y [] n = absurd (n refl)
   two-pieces x y (z ∷ zs) n = refl
 
-  two-first : (x : List ℕ) (ys : List (List ℕ)) → number x ≡ none → twoNumbers request (x ∷ ys) ≡ none
+  pub two-first : (x : List ℕ) (ys : List (List ℕ)) → number x ≡ none → twoNumbers request (x ∷ ys) ≡ none
   unfolding twoNumbers
   two-first x [] e = refl
   two-first x (y ∷ []) e = rw (e, twoNumbers) refl
   two-first x (y ∷ (z ∷ zs)) e = refl
 
-  two-second : (x text : List ℕ) (a : ℕ) → number x ≡ some a → number text ≡ none → twoNumbers request (x ∷ split comma text) ≡ none
+  pub two-second : (x text : List ℕ) (a : ℕ) → number x ≡ some a → number text ≡ none → twoNumbers request (x ∷ split comma text) ≡ none
   unfolding twoNumbers
   two-second x text a e n = elim (decLe (length text) (before comma text)) [
     | yes l ↦ rw (split-last comma text l, e, n, twoNumbers) refl

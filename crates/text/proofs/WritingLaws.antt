@@ -9,12 +9,13 @@ use native.Mathlib.Nat.{add-zero, add-suc, suc-add, add-assoc}
 use native.Mathlib.Numerals.{add-one}
 use native.Mathlib.Decide.{decLe}
 use lib.Dec.{ltb}
-use lib.ListN.{length, take, getD, set, length-append, length-map}
-use lib.Seq.{sets, length-sets, take-suc, take-all, set-out, length-take-le}
+use lib.ListN.{length, take, drop, getD, set, length-append, length-map}
+use lib.Seq.{sets, sets-eq, length-sets, take-suc, take-all, set-out, length-take-le}
 use Rattle.lists.proofs.Tests.{ltb-of, ltb-over, cond-true, cond-false}
 use Rattle.rules.specs.Text.{digit, hexDigit, decimalIn, decimal, hexIn, hex, spaced, space, zeroDigit, point, lineFeed}
 use Rattle.rules.specs.Listing.{nameText}
 use Rattle.text.specs.Written.{far, onward, Wrote, gap}
+use Rattle.text.specs.Lines.{nameIn}
 
 pub sets-append : (o : List ℕ) (at : ℕ) (a b : List ℕ) → sets o at (a ++ b) ≡ sets (sets o at a) (at + length a) b
 sets-append o at [] b = rw add-zero
@@ -155,3 +156,32 @@ wrote-line w v f = wrote-then (wrote-then w v) f
 pub wrote-word-more : (l : List ℕ) (i : ℕ) {old mid mid′ new : List ℕ} {at b b′ e : ℕ} → i < length l → Wrote (spaced (map hex (take i l))) at old mid b → Wrote (gap i) b mid mid′ b′ → Wrote (hex (getD l i 0)) b′ mid′ new e
     → Wrote (spaced (map hex (take (i + 1) l))) at old new e
 wrote-word-more l i h w g v = wrote-piece hex l i 0 h w g v
+
+-- one name more
+pub wrote-name-more : (l : List ℕ) (i : ℕ) {old mid mid′ new : List ℕ} {at b b′ e : ℕ} → i < length l → Wrote (spaced (map nameIn (take i l))) at old mid b → Wrote (gap i) b mid mid′ b′
+    → Wrote (nameText (getD l i 0 / 65536) (getD l i 0 % 65536)) b′ mid′ new e → Wrote (spaced (map nameIn (take (i + 1) l))) at old new e
+unfolding nameIn
+wrote-name-more l i h w g v = wrote-piece nameIn l i 0 h w g v
+
+-- five lines
+pub wrote-five : {v w x y z : List ℕ} {old m1 m2 m3 m4 new : List ℕ} {at b1 b2 b3 b4 e : ℕ} → Wrote v at old m1 b1 → Wrote w b1 m1 m2 b2 → Wrote x b2 m2 m3 b3 → Wrote y b3 m3 m4 b4 → Wrote z b4 m4 new e
+    → Wrote (v ++ w ++ x ++ y ++ z) at old new e
+wrote-five a b c d e = wrote-then (wrote-then (wrote-then (wrote-then a b) c) d) e
+
+-- what ends within the output stands there whole, and all else as it stood
+pub wrote-fits : {ws old new : List ℕ} {at e : ℕ} → Wrote ws at old new e → e ≤ length old → (e ≡ at + length ws) × (new ≡ take at old ++ ws ++ drop e old)
+wrote-fits {ws} {old} {new} {at} {e} w h =
+    let s = w .short in
+    let d : e ≡ at + length ws = let x = w .end-is in omega arith in
+    (d, w .new-is ∙ rw d (sets-eq ws old at (omega arith)))
+
+-- what ends past the output has no room in it
+pub wrote-over : {ws old new : List ℕ} {at e : ℕ} → Wrote ws at old new e → length old < e → length old < at + length ws
+wrote-over w h = let x = w .end-is in omega arith
+
+-- measured on any output, before it is written into another that is shorter than `far`
+pub measured-fits : {ws old new : List ℕ} {e room : ℕ} → Wrote ws 0 old new e → room < far → e ≤ room → length ws ≡ e
+measured-fits w s h = let x = w .end-is in omega arith
+
+pub measured-over : {ws old new : List ℕ} {e room : ℕ} → Wrote ws 0 old new e → room < far → room < e → room < length ws
+measured-over w s h = let x = w .end-is in omega arith

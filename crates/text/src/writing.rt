@@ -62,7 +62,7 @@ pub fn write_decimal(out: &mut [u8], at: usize, n: u32) -> usize
 }
 
 // A hexadecimal digit, in upper case.
-pub fn hex_digit(d: u32) -> u8
+fn hex_digit(d: u32) -> u8
     requires { ⌜ d < 16 ⌝ }
     ensures { λ r. ⌜ r ≡ hexDigit d ⌝ }
 {
