@@ -7,15 +7,14 @@ use mathlib.Core.Option.{some}
 use lib.ListN.{length}
 use Rattle.rules.specs.State.{Message, Process}
 use Rattle.rules.specs.Listing.{nameText, messageText, newestName, processLines}
-use Rattle.rules.specs.Text.{bytes, line, lineFeed}
+use Rattle.rules.specs.Text.{bytes, line}
 use Rattle.text.specs.declared.listing.Newest.{Newest}
 use Rattle.text.specs.Written.{Wrote}
-use Rattle.text.specs.Lines.{nameIn, newestText, pidLine, historyLine, newestLine, queueLine, wordsLine, processText}
+use Rattle.text.specs.Lines.{nameIn, newestText, newestBytes, pidLine, historyLine, newestLine, queueLine, wordsLine, processText}
 
 -- the newest entry's kind is known
-pub wrote-newest : (newest kind : Newest) {old new : List ℕ} {at e : ℕ} → newest ≡ kind → Wrote (bytes "newest=" ++ bytes (newestText kind) ++ (lineFeed ∷ [])) at old new e → Wrote (newestLine newest) at old new e
-unfolding newestLine line
-wrote-newest newest kind i w = rw i w
+pub wrote-kind : (newest kind : Newest) {old new : List ℕ} {at e : ℕ} → newest ≡ kind → Wrote (newestBytes kind) at old new e → Wrote (newestBytes newest) at old new e
+wrote-kind newest kind i w = rw i w
 
 -- a name in a word
 pub name-in : (s k : ℕ) → k < 65536 → nameIn (s * 65536 + k) ≡ nameText s k
@@ -29,5 +28,5 @@ name-in s k h =
 pub process-lines : (p : ℕ) (process : Process) (queue : List Message) (entries : ℕ) (newest : Newest) (names words : List ℕ)
     → entries ≡ length (process .history) → newestText newest ≡ newestName (process .history) → map nameIn names ≡ map messageText queue → words ≡ process .control
     → processText p entries newest names words ≡ processLines p queue (some process)
-unfolding processText pidLine historyLine newestLine queueLine wordsLine processLines
+unfolding processText pidLine historyLine newestBytes newestLine queueLine wordsLine processLines
 process-lines p process queue entries newest names words e n q w = rw (e, n, q, w)

@@ -11,6 +11,7 @@ use Rattle.text.specs.declared.listing.Newest.the-variants.{Seq, Send, R
 unfoldable pub nameIn : ℕ → List ℕ
 nameIn w = nameText (w / 65536) (w % 65536)
 
+-- "newest is a kind or `none`"
 unfoldable pub newestText : Newest → String
 newestText Seq = "seq"
 newestText Send = "send"
@@ -19,6 +20,9 @@ newestText Spawn = "spawn"
 newestText Own = "self"
 newestText Check = "check"
 newestText Nothing = "none"
+
+unfoldable pub newestBytes : Newest → List ℕ
+newestBytes newest = bytes (newestText newest)
 
 unfoldable pub processesLine : ℕ → List ℕ
 processesLine n = line "processes=" (decimal n)
@@ -30,7 +34,7 @@ unfoldable pub historyLine : ℕ → List ℕ
 historyLine n = line "history=" (decimal n)
 
 unfoldable pub newestLine : Newest → List ℕ
-newestLine newest = line "newest=" (bytes (newestText newest))
+newestLine newest = line "newest=" (newestBytes newest)
 
 unfoldable pub queueLine : List ℕ → List ℕ
 queueLine names = line "queue=" (spaced (map nameIn names))

@@ -13,7 +13,6 @@ use crate::keys::PROCESSES;
 use crate::keys::QUEUE;
 use crate::keys::WORDS;
 use crate::replies::write_number_line;
-use crate::replies::write_text_line;
 use crate::writing::past;
 use crate::writing::write_bytes;
 use crate::writing::write_gap;
@@ -23,7 +22,7 @@ use crate::writing::write_words;
 ghost use mathlib.Core.List.{List, map};
 ghost use Rattle.rules.specs.Text.{spaced};
 ghost use Rattle.text.specs.Written.{Wrote};
-ghost use Rattle.text.specs.Lines.{nameIn, processesLine, pidLine, historyLine, newestLine, queueLine, wordsLine, processText};
+ghost use Rattle.text.specs.Lines.{nameIn, processesLine, pidLine, historyLine, newestBytes, newestLine, queueLine, wordsLine, processText};
 
 // The kind of a process's newest entry.
 pub enum Newest {
@@ -60,19 +59,28 @@ pub fn write_history(out: &mut [u8], at: usize, n: u32) -> usize
     write_number_line(out, at, &HISTORY, n)
 }
 
+// The name of a kind.
+fn write_kind(out: &mut [u8], at: usize, newest: Newest) -> usize
+    ensures { λ r. ⌜ Wrote (newestBytes newest) at (now (out .entry)) (now (out .exit)) r ⌝ }
+{
+    match newest {
+        Newest::Seq => write_bytes(out, at, &KIND_SEQ),
+        Newest::Send => write_bytes(out, at, &KIND_SEND),
+        Newest::Rec => write_bytes(out, at, &KIND_REC),
+        Newest::Spawn => write_bytes(out, at, &KIND_SPAWN),
+        Newest::Own => write_bytes(out, at, &KIND_SELF),
+        Newest::Check => write_bytes(out, at, &KIND_CHECK),
+        Newest::Nothing => write_bytes(out, at, &KIND_NONE),
+    }
+}
+
 // The kind of its newest entry.
 pub fn write_newest(out: &mut [u8], at: usize, newest: Newest) -> usize
     ensures { λ r. ⌜ Wrote (newestLine newest) at (now (out .entry)) (now (out .exit)) r ⌝ }
 {
-    match newest {
-        Newest::Seq => write_text_line(out, at, &NEWEST, &KIND_SEQ),
-        Newest::Send => write_text_line(out, at, &NEWEST, &KIND_SEND),
-        Newest::Rec => write_text_line(out, at, &NEWEST, &KIND_REC),
-        Newest::Spawn => write_text_line(out, at, &NEWEST, &KIND_SPAWN),
-        Newest::Own => write_text_line(out, at, &NEWEST, &KIND_SELF),
-        Newest::Check => write_text_line(out, at, &NEWEST, &KIND_CHECK),
-        Newest::Nothing => write_text_line(out, at, &NEWEST, &KIND_NONE),
-    }
+    let to = write_bytes(out, at, &NEWEST);
+    let end = write_kind(out, to, newest);
+    write_line_feed(out, end)
 }
 
 // Names split by single spaces, each in a word.

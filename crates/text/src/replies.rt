@@ -1,4 +1,4 @@
-// Whole lines: a key with a number or a text, answers and counts of what was undone.
+// Whole lines: a key with a number, answers and counts of what was undone.
 use crate::keys::ANSWER;
 use crate::keys::UNDONE;
 use crate::writing::write_bytes;
@@ -16,15 +16,6 @@ pub fn write_number_line(out: &mut [u8], at: usize, key: &[u8], n: u32) -> usize
 {
     let to = write_bytes(out, at, key);
     let end = write_decimal(out, to, n);
-    write_line_feed(out, end)
-}
-
-// A line of a key and a fixed text.
-pub fn write_text_line(out: &mut [u8], at: usize, key: &[u8], text: &[u8]) -> usize
-    ensures { λ r. ⌜ Wrote (now (key .entry) ++ now (text .entry) ++ (lineFeed ∷ [])) at (now (out .entry)) (now (out .exit)) r ⌝ }
-{
-    let to = write_bytes(out, at, key);
-    let end = write_bytes(out, to, text);
     write_line_feed(out, end)
 }
 
