@@ -1,7 +1,7 @@
 -- A line of more than 16 bytes is malformed.
-use mathlib.Core.Path.{_≡_, refl, sym, ap, _∙_}
-use mathlib.Core.Logic.{_⊎_, inl, inr}
-use mathlib.Core.Bool.{Bool, true, false, _&&_}
+use mathlib.Core.Path.{_≡_, refl}
+use mathlib.Core.Logic.{inl, inr}
+use mathlib.Core.Bool.{_&&_}
 use mathlib.Core.Option.{Option, none, some}
 use mathlib.Core.List.{List, [], _∷_}
 use Prim.Native.Nat.{ℕ, zero, suc, _+_, _-_, _*_, _<_, _≤_}
@@ -9,14 +9,14 @@ use Prim.Native.String.{String}
 use native.Mathlib.Omega.{arith}
 use native.Mathlib.Decide.{decLe}
 use lib.Dec.{eqb, leb}
-use lib.ListN.{length, take, drop, length-drop, length-take}
+use lib.ListN.{length, take, drop, length-drop}
 use lib.Seq.{length-take-le}
-use Rattle.lists.proofs.Tests.{eqb-apart, eqb-false, leb-true, and-left, true-or-false, none-not-some}
+use Rattle.lists.proofs.Tests.{eqb-false, leb-true, and-left, true-or-false, none-not-some}
 use Rattle.rules.specs.Text.{bytes, comma, zeroDigit}
-use Rattle.rules.specs.Commands.{step, spawnInto, deliver, back, undeliver}
-use Rattle.rules.specs.Line.{Request, single, rollbackTo, split, digitsSay, ofByte, number, after, oneNumber, twoNumbers, keyed, parseLine}
+use Rattle.rules.specs.Commands.{step, deliver, back, undeliver}
+use Rattle.rules.specs.Line.{Request, split, digitsSay, ofByte, number, after, oneNumber, twoNumbers, keyed, parseLine}
 use Rattle.text.specs.Pieces.{before}
-use Rattle.text.proofs.PieceLaws.{before-within, split-more, split-last}
+use Rattle.text.proofs.PieceLaws.{split-more, split-last}
 use Rattle.text.proofs.NumberLaws.{say-not, say-digit, say-large, one-none, two-first, two-second}
 
 -- one digit more, if it is one

@@ -1,12 +1,11 @@
 -- Laws of numbers in texts: digits read one after another, one number, two numbers with a comma between them.
 use mathlib.Core.Path.{_≡_, refl, sym, ap, _∙_}
-use mathlib.Core.Logic.{_⊎_, inl, inr}
-use mathlib.Core.Bool.{Bool, true, false, cond, _&&_}
+use mathlib.Core.Logic.{inl, inr}
+use mathlib.Core.Bool.{Bool, true, false, _&&_}
 use mathlib.Core.Option.{Option, none, some}
-use mathlib.Core.List.{List, [], _∷_, _++_}
-use Prim.Native.Nat.{ℕ, zero, suc, _+_, _-_, _*_, _<_, _≤_, min}
+use mathlib.Core.List.{List, [], _∷_}
+use Prim.Native.Nat.{ℕ, zero, suc, _+_, _-_, _*_, _<_, _≤_}
 use native.Mathlib.Omega.{arith}
-use native.Mathlib.Nat.{zero-add}
 use native.Mathlib.Numerals.{add-one}
 use native.Mathlib.Decide.{decLe}
 use lib.Dec.{eqb, leb}
@@ -17,7 +16,6 @@ use Rattle.rules.specs.Text.{comma, zeroDigit}
 use Rattle.rules.specs.Line.{Request, split, digitsSay, ofByte, number, oneNumber, twoNumbers}
 use Rattle.text.specs.declared.parsing.Number.{Number}
 use Rattle.text.specs.declared.parsing.Number.the-variants.{Value, Not}
-use Rattle.text.specs.declared.parsing.Pair.{Pair}
 use Rattle.text.specs.declared.parsing.Pair.the-variants.{Values, Neither}
 use Rattle.text.specs.Pieces.{before, pieceEnd}
 use Rattle.text.specs.Requests.{numberOf, askedBy, ReadsPair}

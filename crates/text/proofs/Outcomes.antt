@@ -1,13 +1,12 @@
 -- Two outcomes that a contract allows are equal.
 use mathlib.Core.Path.{_≡_, refl, sym, ap, _∙_}
-use mathlib.Core.Bool.{Bool, true, false, cond}
+use mathlib.Core.Bool.{Bool, true, false}
 use mathlib.Core.Option.{Option, none, some}
 use mathlib.Core.List.{List}
 use Prim.Native.Nat.{ℕ}
-use lib.ListN.{length, drop}
 use Rattle.lists.proofs.Tests.{none-not-some}
-use Rattle.rules.specs.Commands.{Command, step, spawnInto, deliver, back, undeliver}
-use Rattle.rules.specs.Line.{Request, single, rollbackTo, after, parseLine}
+use Rattle.rules.specs.Commands.{step, spawnInto, deliver, back, undeliver}
+use Rattle.rules.specs.Line.{Request, single, rollbackTo, parseLine}
 use Rattle.text.specs.declared.parsing.Number.{Number}
 use Rattle.text.specs.declared.parsing.Number.the-variants.{Value, Not}
 use Rattle.text.specs.declared.parsing.Pair.{Pair}

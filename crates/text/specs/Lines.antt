@@ -8,8 +8,11 @@ use Rattle.text.specs.declared.listing.Newest.{Newest}
 use Rattle.text.specs.declared.listing.Newest.the-variants.{Seq, Send, Rec, Spawn, Own, Check, Nothing}
 
 -- a message's name in a word: sender × 65536 + count
+abbrev pub nameBase : ℕ
+nameBase = 65536
+
 unfoldable pub nameIn : ℕ → List ℕ
-nameIn w = nameText (w / 65536) (w % 65536)
+nameIn w = nameText (w / nameBase) (w % nameBase)
 
 -- "newest is a kind or `none`"
 unfoldable pub newestText : Newest → String

@@ -1,7 +1,7 @@
 -- What the answers of the readers stand for. Assumes nothing: these are definitions.
 use Prim.Native.Nat.{ℕ, _≤_}
 use mathlib.Core.Path.{_≡_}
-use mathlib.Core.Bool.{Bool, true, false, cond}
+use mathlib.Core.Bool.{Bool, true, cond}
 use mathlib.Core.Option.{Option, none, some}
 use mathlib.Core.List.{List}
 use lib.ListN.{length, drop}

@@ -35,8 +35,8 @@ pub enum Newest {
     Nothing,
 }
 
-// What a name in a word is divided by: sender × 65536 + count.
-const COUNTS: u32 = 65536;
+// A name in a word: sender × 65536 + count.
+const NAME_BASE: u32 = 65536;
 
 // How many processes there are.
 pub fn write_processes(out: &mut [u8], at: usize, n: u32) -> usize
@@ -92,7 +92,7 @@ pub fn write_names(out: &mut [u8], at: usize, names: &[u32]) -> usize
     while i < names.len() {
         let next = write_gap(out, to, i);
         let w = names[i];
-        to = write_name(out, next, w / COUNTS, w % COUNTS);
+        to = write_name(out, next, w / NAME_BASE, w % NAME_BASE);
         i += 1;
     }
     to

@@ -1,156 +1,119 @@
+-- `write_kind` meets its contract.
 use Rattle.text.proofs.ListingLaws.{wrote-kind}
 use Rattle.rules.specs.Text.{bytes}
 use Rattle.text.specs.Lines.{newestBytes, newestText}
 use borrow.Author.Needs.{needs}
 use Rattle.text.proofs.listing.write_kind.Statement.{statement}
 use Rattle.text.proofs.listing.write_kind.Tie as tie
-use Rattle.text.proofs.listing.write_kind.Reads as reads
-use Rattle.text.proofs.listing.write_kind.Lts as lts
-use Rattle.text.proofs.writing.write_bytes.Reads as write-bytes-reads
 
--- src/listing.rt:67:36
 enum-told : tie.Need-enum-told
 enum-told c = search needs
 
--- src/listing.rt:67:45
 slice-aggregate-write-bytes : tie.Need-slice-aggregate-write-bytes
 slice-aggregate-write-bytes c = search needs
 
--- src/listing.rt:67:24
 write-bytes-requires : tie.Need-write-bytes-requires
 write-bytes-requires c κs = search needs
 
--- src/listing.rt:68:37
 enum-told-2 : tie.Need-enum-told-2
 enum-told-2 c = search needs
 
--- src/listing.rt:68:46
 slice-aggregate-write-bytes-2 : tie.Need-slice-aggregate-write-bytes-2
 slice-aggregate-write-bytes-2 c = search needs
 
--- src/listing.rt:68:25
 write-bytes-requires-2 : tie.Need-write-bytes-requires-2
 write-bytes-requires-2 c κs = search needs
 
--- src/listing.rt:69:36
 enum-told-3 : tie.Need-enum-told-3
 enum-told-3 c = search needs
 
--- src/listing.rt:69:45
 slice-aggregate-write-bytes-3 : tie.Need-slice-aggregate-write-bytes-3
 slice-aggregate-write-bytes-3 c = search needs
 
--- src/listing.rt:69:24
 write-bytes-requires-3 : tie.Need-write-bytes-requires-3
 write-bytes-requires-3 c κs = search needs
 
--- src/listing.rt:70:38
 enum-told-4 : tie.Need-enum-told-4
 enum-told-4 c = search needs
 
--- src/listing.rt:70:47
 slice-aggregate-write-bytes-4 : tie.Need-slice-aggregate-write-bytes-4
 slice-aggregate-write-bytes-4 c = search needs
 
--- src/listing.rt:70:26
 write-bytes-requires-4 : tie.Need-write-bytes-requires-4
 write-bytes-requires-4 c κs = search needs
 
--- src/listing.rt:71:36
 enum-told-5 : tie.Need-enum-told-5
 enum-told-5 c = search needs
 
--- src/listing.rt:71:45
 slice-aggregate-write-bytes-5 : tie.Need-slice-aggregate-write-bytes-5
 slice-aggregate-write-bytes-5 c = search needs
 
--- src/listing.rt:71:24
 write-bytes-requires-5 : tie.Need-write-bytes-requires-5
 write-bytes-requires-5 c κs = search needs
 
--- src/listing.rt:72:38
 enum-told-6 : tie.Need-enum-told-6
 enum-told-6 c = search needs
 
--- src/listing.rt:72:47
 slice-aggregate-write-bytes-6 : tie.Need-slice-aggregate-write-bytes-6
 slice-aggregate-write-bytes-6 c = search needs
 
--- src/listing.rt:72:26
 write-bytes-requires-6 : tie.Need-write-bytes-requires-6
 write-bytes-requires-6 c κs = search needs
 
--- src/listing.rt:73:40
 enum-told-7 : tie.Need-enum-told-7
 enum-told-7 c = search needs
 
--- src/listing.rt:73:49
 slice-aggregate-write-bytes-7 : tie.Need-slice-aggregate-write-bytes-7
 slice-aggregate-write-bytes-7 c = search needs
 
--- src/listing.rt:73:28
 write-bytes-requires-7 : tie.Need-write-bytes-requires-7
 write-bytes-requires-7 c κs = search needs
 
--- src/listing.rt:63:1
 same-length : tie.Need-same-length
 same-length c = search needs
 
--- src/listing.rt:63:1
 returns : tie.Need-returns
 unfolding newestBytes newestText bytes
 returns c = search wrote-kind
 
--- src/listing.rt:63:1
 same-length-2 : tie.Need-same-length-2
 same-length-2 c = search needs
 
--- src/listing.rt:63:1
 returns-2 : tie.Need-returns-2
 unfolding newestBytes newestText bytes
 returns-2 c = search wrote-kind
 
--- src/listing.rt:63:1
 same-length-3 : tie.Need-same-length-3
 same-length-3 c = search needs
 
--- src/listing.rt:63:1
 returns-3 : tie.Need-returns-3
 unfolding newestBytes newestText bytes
 returns-3 c = search wrote-kind
 
--- src/listing.rt:63:1
 same-length-4 : tie.Need-same-length-4
 same-length-4 c = search needs
 
--- src/listing.rt:63:1
 returns-4 : tie.Need-returns-4
 unfolding newestBytes newestText bytes
 returns-4 c = search wrote-kind
 
--- src/listing.rt:63:1
 same-length-5 : tie.Need-same-length-5
 same-length-5 c = search needs
 
--- src/listing.rt:63:1
 returns-5 : tie.Need-returns-5
 unfolding newestBytes newestText bytes
 returns-5 c = search wrote-kind
 
--- src/listing.rt:63:1
 same-length-6 : tie.Need-same-length-6
 same-length-6 c = search needs
 
--- src/listing.rt:63:1
 returns-6 : tie.Need-returns-6
 unfolding newestBytes newestText bytes
 returns-6 c = search wrote-kind
 
--- src/listing.rt:63:1
 same-length-7 : tie.Need-same-length-7
 same-length-7 c = search needs
 
--- src/listing.rt:63:1
 returns-7 : tie.Need-returns-7
 unfolding newestBytes newestText bytes
 returns-7 c = search wrote-kind

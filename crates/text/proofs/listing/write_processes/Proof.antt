@@ -1,25 +1,19 @@
+-- `write_processes` meets its contract.
 use Rattle.rules.specs.Text.{line, bytes}
 use Rattle.text.specs.Lines.{processesLine}
 use borrow.Author.Needs.{needs}
 use Rattle.text.proofs.listing.write_processes.Statement.{statement}
 use Rattle.text.proofs.listing.write_processes.Tie as tie
-use Rattle.text.proofs.listing.write_processes.Reads as reads
-use Rattle.text.proofs.listing.write_processes.Lts as lts
-use Rattle.text.proofs.replies.write_number_line.Reads as write-number-line-reads
 
--- src/listing.rt:31:32
 slice-aggregate-write-number-line : tie.Need-slice-aggregate-write-number-line
 slice-aggregate-write-number-line c = search needs
 
--- src/listing.rt:31:5
 write-number-line-requires : tie.Need-write-number-line-requires
 write-number-line-requires c κs = search needs
 
--- src/listing.rt:28:1
 same-length : tie.Need-same-length
 same-length c = search needs
 
--- src/listing.rt:28:1
 returns : tie.Need-returns
 unfolding processesLine line bytes
 returns c = search needs

@@ -1,28 +1,21 @@
+-- `back_line` meets its contract.
 use Rattle.text.proofs.CommandLaws.{one-malformed, back-read}
 use borrow.Author.Needs.{needs}
 use Rattle.text.proofs.parsing.back_line.Statement.{statement}
 use Rattle.text.proofs.parsing.back_line.Tie as tie
-use Rattle.text.proofs.parsing.back_line.Reads as reads
-use Rattle.text.proofs.parsing.back_line.Lts as lts
-use Rattle.text.proofs.parsing.read_number.Reads as read-number-reads
 
--- src/parsing.rt:139:28
 read-number-requires : tie.Need-read-number-requires
 read-number-requires c κs = search needs
 
--- src/parsing.rt:139:23
 enum-known-p : tie.Need-enum-known-p
 enum-known-p c = search needs
 
--- src/parsing.rt:140:9
 enum-told : tie.Need-enum-told
 enum-told c = search needs
 
--- src/parsing.rt:140:9
 returns : tie.Need-returns
 returns c = search one-malformed
 
--- src/parsing.rt:136:1
 returns-2 : tie.Need-returns-2
 returns-2 c = search back-read
 

@@ -1,3 +1,4 @@
+-- `begins` meets its contract.
 use borrow.Author.Needs.{needs}
 use Rattle.rules.specs.Line.{after}
 use lib.ListN.{length, drop}
@@ -6,8 +7,6 @@ use mathlib.Core.Path.{_≡_}
 use Rattle.text.proofs.CommandLaws.{begins-short, begins-not, begins-more, begins-all}
 use Rattle.text.proofs.parsing.begins.Statement.{statement}
 use Rattle.text.proofs.parsing.begins.Tie as tie
-use Rattle.text.proofs.parsing.begins.Reads as reads
-use Rattle.text.proofs.parsing.begins.Lts as lts
 
 abbrev Inv-loop : tie.InvT-loop
 Inv-loop text key i₀ i = (i ≤ length key) × (length key ≤ length text) × (after (drop i key) (drop i text) ≡ after key text)
@@ -15,39 +14,30 @@ Inv-loop text key i₀ i = (i ≤ length key) × (length key ≤ length text) ×
 abbrev μ-loop : tie.MeasureT-loop
 μ-loop text key i₀ i = length key - i
 
--- src/parsing.rt:41:9
 returns : tie.Need-returns Inv-loop μ-loop
 returns c = search begins-short
 
--- src/parsing.rt:44:5
 loop-holds : tie.Need-loop-holds Inv-loop μ-loop
 loop-holds c = search needs
 
--- src/parsing.rt:45:12
 shared-slice-read-if2 : tie.Need-shared-slice-read-if2 Inv-loop μ-loop
 shared-slice-read-if2 c = search needs
 
--- src/parsing.rt:45:23
 shared-slice-read-if2-2 : tie.Need-shared-slice-read-if2-2 Inv-loop μ-loop
 shared-slice-read-if2-2 c = search needs
 
--- src/parsing.rt:46:13
 returns-2 : tie.Need-returns-2 Inv-loop μ-loop
 returns-2 c = search begins-not
 
--- src/parsing.rt:48:9
 add-i : tie.Need-add-i Inv-loop μ-loop
 add-i c = search needs
 
--- src/parsing.rt:44:5
 loop-less : tie.Need-loop-less Inv-loop μ-loop
 loop-less c = search needs
 
--- src/parsing.rt:44:5
 loop-again : tie.Need-loop-again Inv-loop μ-loop
 loop-again c = (search needs, search needs, search begins-more)
 
--- src/parsing.rt:37:1
 returns-3 : tie.Need-returns-3 Inv-loop μ-loop
 returns-3 c = search begins-all
 

@@ -1,28 +1,21 @@
+-- `deliver_line` meets its contract.
 use Rattle.text.proofs.CommandLaws.{two-malformed, deliver-read}
 use borrow.Author.Needs.{needs}
 use Rattle.text.proofs.parsing.deliver_line.Statement.{statement}
 use Rattle.text.proofs.parsing.deliver_line.Tie as tie
-use Rattle.text.proofs.parsing.deliver_line.Reads as reads
-use Rattle.text.proofs.parsing.deliver_line.Lts as lts
-use Rattle.text.proofs.parsing.read_pair.Reads as read-pair-reads
 
--- src/parsing.rt:130:30
 read-pair-requires : tie.Need-read-pair-requires
 read-pair-requires c κs = search needs
 
--- src/parsing.rt:130:22
 enum-known-s : tie.Need-enum-known-s
 enum-known-s c = search needs
 
--- src/parsing.rt:131:9
 enum-told : tie.Need-enum-told
 enum-told c = search needs
 
--- src/parsing.rt:131:9
 returns : tie.Need-returns
 returns c = search two-malformed
 
--- src/parsing.rt:127:1
 returns-2 : tie.Need-returns-2
 returns-2 c = search deliver-read
 

@@ -1,194 +1,143 @@
+-- `parse_line` meets its contract.
 use Rattle.rules.specs.Text.{bytes}
 use native.Mathlib.Omega.{arith}
 use Rattle.text.proofs.CommandLaws.{is-step, is-spawn, is-deliver, is-back, is-undeliver, is-rollback, is-none}
 use borrow.Author.Needs.{needs}
 use Rattle.text.proofs.parsing.parse_line.Statement.{statement}
 use Rattle.text.proofs.parsing.parse_line.Tie as tie
-use Rattle.text.proofs.parsing.parse_line.Reads as reads
-use Rattle.text.proofs.parsing.parse_line.Lts as lts
-use Rattle.text.proofs.parsing.back_line.Reads as back-line-reads
-use Rattle.text.proofs.parsing.begins.Reads as begins-reads
-use Rattle.text.proofs.parsing.deliver_line.Reads as deliver-line-reads
-use Rattle.text.proofs.parsing.rollback_line.Reads as rollback-line-reads
-use Rattle.text.proofs.parsing.spawn_line.Reads as spawn-line-reads
-use Rattle.text.proofs.parsing.step_line.Reads as step-line-reads
-use Rattle.text.proofs.parsing.undeliver_line.Reads as undeliver-line-reads
 
--- src/parsing.rt:167:21
 slice-aggregate-begins : tie.Need-slice-aggregate-begins
 slice-aggregate-begins c = search needs
 
--- src/parsing.rt:167:8
 begins-requires : tie.Need-begins-requires
 begins-requires c κs = search needs
 
--- src/parsing.rt:168:26
 sub-step-line : tie.Need-sub-step-line
 sub-step-line c = let h = c .before .begins .ensures .within (c .if1 .taken) in omega arith
 
--- src/parsing.rt:168:26
 part-step-line-start : tie.Need-part-step-line-start
 part-step-line-start c = let h = c .before .begins .ensures .within (c .if1 .taken) in omega arith
 
--- src/parsing.rt:168:26
 part-step-line-end : tie.Need-part-step-line-end
 part-step-line-end c = search needs
 
--- src/parsing.rt:168:9
 step-line-requires : tie.Need-step-line-requires
 step-line-requires c κs = search needs
 
--- src/parsing.rt:168:9
 returns : tie.Need-returns
 unfolding bytes
 returns c = search is-step
 
--- src/parsing.rt:170:21
 slice-aggregate-begins-2 : tie.Need-slice-aggregate-begins-2
 slice-aggregate-begins-2 c = search needs
 
--- src/parsing.rt:170:8
 begins-requires-2 : tie.Need-begins-requires-2
 begins-requires-2 c κs = search needs
 
--- src/parsing.rt:171:27
 sub-spawn-line : tie.Need-sub-spawn-line
 sub-spawn-line c = let h = c .before .begins2 .ensures .within (c .if2 .taken) in omega arith
 
--- src/parsing.rt:171:27
 part-spawn-line-start : tie.Need-part-spawn-line-start
 part-spawn-line-start c = let h = c .before .begins2 .ensures .within (c .if2 .taken) in omega arith
 
--- src/parsing.rt:171:27
 part-spawn-line-end : tie.Need-part-spawn-line-end
 part-spawn-line-end c = search needs
 
--- src/parsing.rt:171:9
 spawn-line-requires : tie.Need-spawn-line-requires
 spawn-line-requires c κs = search needs
 
--- src/parsing.rt:171:9
 returns-2 : tie.Need-returns-2
 unfolding bytes
 returns-2 c = search is-spawn
 
--- src/parsing.rt:173:21
 slice-aggregate-begins-3 : tie.Need-slice-aggregate-begins-3
 slice-aggregate-begins-3 c = search needs
 
--- src/parsing.rt:173:8
 begins-requires-3 : tie.Need-begins-requires-3
 begins-requires-3 c κs = search needs
 
--- src/parsing.rt:174:29
 sub-deliver-line : tie.Need-sub-deliver-line
 sub-deliver-line c = let h = c .before .begins3 .ensures .within (c .if3 .taken) in omega arith
 
--- src/parsing.rt:174:29
 part-deliver-line-start : tie.Need-part-deliver-line-start
 part-deliver-line-start c = let h = c .before .begins3 .ensures .within (c .if3 .taken) in omega arith
 
--- src/parsing.rt:174:29
 part-deliver-line-end : tie.Need-part-deliver-line-end
 part-deliver-line-end c = search needs
 
--- src/parsing.rt:174:9
 deliver-line-requires : tie.Need-deliver-line-requires
 deliver-line-requires c κs = search needs
 
--- src/parsing.rt:174:9
 returns-3 : tie.Need-returns-3
 unfolding bytes
 returns-3 c = search is-deliver
 
--- src/parsing.rt:176:21
 slice-aggregate-begins-4 : tie.Need-slice-aggregate-begins-4
 slice-aggregate-begins-4 c = search needs
 
--- src/parsing.rt:176:8
 begins-requires-4 : tie.Need-begins-requires-4
 begins-requires-4 c κs = search needs
 
--- src/parsing.rt:177:26
 sub-back-line : tie.Need-sub-back-line
 sub-back-line c = let h = c .before .begins4 .ensures .within (c .if4 .taken) in omega arith
 
--- src/parsing.rt:177:26
 part-back-line-start : tie.Need-part-back-line-start
 part-back-line-start c = let h = c .before .begins4 .ensures .within (c .if4 .taken) in omega arith
 
--- src/parsing.rt:177:26
 part-back-line-end : tie.Need-part-back-line-end
 part-back-line-end c = search needs
 
--- src/parsing.rt:177:9
 back-line-requires : tie.Need-back-line-requires
 back-line-requires c κs = search needs
 
--- src/parsing.rt:177:9
 returns-4 : tie.Need-returns-4
 unfolding bytes
 returns-4 c = search is-back
 
--- src/parsing.rt:179:21
 slice-aggregate-begins-5 : tie.Need-slice-aggregate-begins-5
 slice-aggregate-begins-5 c = search needs
 
--- src/parsing.rt:179:8
 begins-requires-5 : tie.Need-begins-requires-5
 begins-requires-5 c κs = search needs
 
--- src/parsing.rt:180:31
 sub-undeliver-line : tie.Need-sub-undeliver-line
 sub-undeliver-line c = let h = c .before .begins5 .ensures .within (c .if5 .taken) in omega arith
 
--- src/parsing.rt:180:31
 part-undeliver-line-start : tie.Need-part-undeliver-line-start
 part-undeliver-line-start c = let h = c .before .begins5 .ensures .within (c .if5 .taken) in omega arith
 
--- src/parsing.rt:180:31
 part-undeliver-line-end : tie.Need-part-undeliver-line-end
 part-undeliver-line-end c = search needs
 
--- src/parsing.rt:180:9
 undeliver-line-requires : tie.Need-undeliver-line-requires
 undeliver-line-requires c κs = search needs
 
--- src/parsing.rt:180:9
 returns-5 : tie.Need-returns-5
 unfolding bytes
 returns-5 c = search is-undeliver
 
--- src/parsing.rt:182:21
 slice-aggregate-begins-6 : tie.Need-slice-aggregate-begins-6
 slice-aggregate-begins-6 c = search needs
 
--- src/parsing.rt:182:8
 begins-requires-6 : tie.Need-begins-requires-6
 begins-requires-6 c κs = search needs
 
--- src/parsing.rt:183:30
 sub-rollback-line : tie.Need-sub-rollback-line
 sub-rollback-line c = let h = c .before .begins6 .ensures .within (c .if6 .taken) in omega arith
 
--- src/parsing.rt:183:30
 part-rollback-line-start : tie.Need-part-rollback-line-start
 part-rollback-line-start c = let h = c .before .begins6 .ensures .within (c .if6 .taken) in omega arith
 
--- src/parsing.rt:183:30
 part-rollback-line-end : tie.Need-part-rollback-line-end
 part-rollback-line-end c = search needs
 
--- src/parsing.rt:183:9
 rollback-line-requires : tie.Need-rollback-line-requires
 rollback-line-requires c κs = search needs
 
--- src/parsing.rt:183:9
 returns-6 : tie.Need-returns-6
 unfolding bytes
 returns-6 c = search is-rollback
 
--- src/parsing.rt:164:1
 returns-7 : tie.Need-returns-7
 unfolding bytes
 returns-7 c = search is-none

@@ -1,14 +1,12 @@
+-- `read_digits` meets its contract.
 use borrow.Author.Needs.{needs}
 use Rattle.rules.specs.Line.{ofByte, digitsSay}
-use native.Mathlib.Omega.{arith}
 use lib.ListN.{length, drop}
 use Prim.Native.Nat.{_≤_, _-_}
 use mathlib.Core.Path.{_≡_}
 use Rattle.text.proofs.NumberLaws.{digits-low, digits-high, digits-more, digits-large, digits-all}
 use Rattle.text.proofs.parsing.read_digits.Statement.{statement}
 use Rattle.text.proofs.parsing.read_digits.Tie as tie
-use Rattle.text.proofs.parsing.read_digits.Reads as reads
-use Rattle.text.proofs.parsing.read_digits.Lts as lts
 
 abbrev Inv-loop : tie.InvT-loop
 Inv-loop text n₀ i₀ n i = (n ≤ 255) × (ofByte (digitsSay n (drop i text)) ≡ ofByte (digitsSay 0 text))
@@ -16,51 +14,39 @@ Inv-loop text n₀ i₀ n i = (n ≤ 255) × (ofByte (digitsSay n (drop i text))
 abbrev μ-loop : tie.MeasureT-loop
 μ-loop text n₀ i₀ n i = length text - i
 
--- src/parsing.rt:59:5
 loop-holds : tie.Need-loop-holds Inv-loop μ-loop
 loop-holds c = search needs
 
--- src/parsing.rt:60:17
 shared-slice-read-b : tie.Need-shared-slice-read-b Inv-loop μ-loop
 shared-slice-read-b c = search needs
 
--- src/parsing.rt:62:13
 returns : tie.Need-returns Inv-loop μ-loop
 returns c = search digits-low
 
--- src/parsing.rt:65:13
 returns-2 : tie.Need-returns-2 Inv-loop μ-loop
 returns-2 c = search digits-high
 
--- src/parsing.rt:67:13
 mul-n : tie.Need-mul-n Inv-loop μ-loop
 mul-n c = search needs
 
--- src/parsing.rt:67:22
 cast-n : tie.Need-cast-n Inv-loop μ-loop
 cast-n c = search needs
 
--- src/parsing.rt:67:13
 add-n : tie.Need-add-n Inv-loop μ-loop
 add-n c = search needs
 
--- src/parsing.rt:69:13
 returns-3 : tie.Need-returns-3 Inv-loop μ-loop
 returns-3 c = search digits-large
 
--- src/parsing.rt:71:9
 add-i : tie.Need-add-i Inv-loop μ-loop
 add-i c = search needs
 
--- src/parsing.rt:59:5
 loop-less : tie.Need-loop-less Inv-loop μ-loop
 loop-less c = search needs
 
--- src/parsing.rt:59:5
 loop-again : tie.Need-loop-again Inv-loop μ-loop
 loop-again c = (search needs, search digits-more)
 
--- src/parsing.rt:54:1
 returns-4 : tie.Need-returns-4 Inv-loop μ-loop
 returns-4 c = search digits-all
 

@@ -1,28 +1,21 @@
+-- `spawn_line` meets its contract.
 use Rattle.text.proofs.CommandLaws.{two-malformed, spawn-read}
 use borrow.Author.Needs.{needs}
 use Rattle.text.proofs.parsing.spawn_line.Statement.{statement}
 use Rattle.text.proofs.parsing.spawn_line.Tie as tie
-use Rattle.text.proofs.parsing.spawn_line.Reads as reads
-use Rattle.text.proofs.parsing.spawn_line.Lts as lts
-use Rattle.text.proofs.parsing.read_pair.Reads as read-pair-reads
 
--- src/parsing.rt:121:30
 read-pair-requires : tie.Need-read-pair-requires
 read-pair-requires c κs = search needs
 
--- src/parsing.rt:121:22
 enum-known-p : tie.Need-enum-known-p
 enum-known-p c = search needs
 
--- src/parsing.rt:122:9
 enum-told : tie.Need-enum-told
 enum-told c = search needs
 
--- src/parsing.rt:122:9
 returns : tie.Need-returns
 returns c = search two-malformed
 
--- src/parsing.rt:118:1
 returns-2 : tie.Need-returns-2
 returns-2 c = search spawn-read
 

@@ -1,25 +1,19 @@
+-- `write_undone` meets its contract.
 use Rattle.rules.specs.Replies.{undoneLine}
 use Rattle.rules.specs.Text.{line, bytes}
 use borrow.Author.Needs.{needs}
 use Rattle.text.proofs.replies.write_undone.Statement.{statement}
 use Rattle.text.proofs.replies.write_undone.Tie as tie
-use Rattle.text.proofs.replies.write_undone.Reads as reads
-use Rattle.text.proofs.replies.write_undone.Lts as lts
-use Rattle.text.proofs.replies.write_number_line.Reads as write-number-line-reads
 
--- src/replies.rt:39:32
 slice-aggregate-write-number-line : tie.Need-slice-aggregate-write-number-line
 slice-aggregate-write-number-line c = search needs
 
--- src/replies.rt:39:5
 write-number-line-requires : tie.Need-write-number-line-requires
 write-number-line-requires c κs = search needs
 
--- src/replies.rt:36:1
 same-length : tie.Need-same-length
 same-length c = search needs
 
--- src/replies.rt:36:1
 returns : tie.Need-returns
 unfolding undoneLine line bytes
 returns c = search needs

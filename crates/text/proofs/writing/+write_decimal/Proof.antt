@@ -1,5 +1,6 @@
+-- `write_decimal` meets its contract.
 use borrow.Author.Needs.{needs}
-use Rattle.text.proofs.WritingLaws.{wrote-decimal-last, wrote-decimal-next}
+use Rattle.text.proofs.DigitLaws.{wrote-decimal-last, wrote-decimal-next}
 use Prim.Native.Nat.{ℕ, _<_}
 use borrow.Fn.Kinds.{In}
 use borrow.Fn.PlainCycle.{Measures, is, falls, and}
@@ -28,47 +29,36 @@ write-decimal-below t =
 abbrev calls : ℕ → write-decimal-lts.Claims
 calls t = (write-byte-reads.Asked, write-byte-reads.Learnt, write-decimal-below t, write-decimal.Post)
 
--- src/writing.rt:55:49
 write-decimal-cast-write-byte : (t : ℕ) → write-decimal-lts.Need-cast-write-byte (calls t) (write-decimal-at t) write-decimal.Post
 write-decimal-cast-write-byte t c = search needs
 
--- src/writing.rt:55:36
 write-decimal-add-write-byte : (t : ℕ) → write-decimal-lts.Need-add-write-byte (calls t) (write-decimal-at t) write-decimal.Post
 write-decimal-add-write-byte t c = search needs
 
--- src/writing.rt:55:9
 write-decimal-write-byte-requires : (t : ℕ) → write-decimal-lts.Need-write-byte-requires (calls t) (write-decimal-at t) write-decimal.Post
 write-decimal-write-byte-requires t c κs = search needs
 
--- src/writing.rt:55:9
 write-decimal-same-length : (t : ℕ) → write-decimal-lts.Need-same-length (calls t) (write-decimal-at t) write-decimal.Post
 write-decimal-same-length t c = search needs
 
--- src/writing.rt:55:9
 write-decimal-returns : (t : ℕ) → write-decimal-lts.Need-returns (calls t) (write-decimal-at t) write-decimal.Post
 write-decimal-returns t c = search wrote-decimal-last
 
--- src/writing.rt:57:9
 write-decimal-write-decimal-requires : (t : ℕ) → write-decimal-lts.Need-write-decimal-requires (calls t) (write-decimal-at t) write-decimal.Post
 write-decimal-write-decimal-requires t c κs = search needs
 
--- src/writing.rt:58:38
 write-decimal-cast-write-byte-2 : (t : ℕ) → write-decimal-lts.Need-cast-write-byte-2 (calls t) (write-decimal-at t) write-decimal.Post
 write-decimal-cast-write-byte-2 t c = search needs
 
--- src/writing.rt:58:25
 write-decimal-add-write-byte-2 : (t : ℕ) → write-decimal-lts.Need-add-write-byte-2 (calls t) (write-decimal-at t) write-decimal.Post
 write-decimal-add-write-byte-2 t c = search needs
 
--- src/writing.rt:58:5
 write-decimal-write-byte-requires-2 : (t : ℕ) → write-decimal-lts.Need-write-byte-requires-2 (calls t) (write-decimal-at t) write-decimal.Post
 write-decimal-write-byte-requires-2 t c κs = search needs
 
--- src/writing.rt:51:1
 write-decimal-same-length-2 : (t : ℕ) → write-decimal-lts.Need-same-length-2 (calls t) (write-decimal-at t) write-decimal.Post
 write-decimal-same-length-2 t c = search needs
 
--- src/writing.rt:51:1
 write-decimal-returns-2 : (t : ℕ) → write-decimal-lts.Need-returns-2 (calls t) (write-decimal-at t) write-decimal.Post
 write-decimal-returns-2 t c = search wrote-decimal-next
 

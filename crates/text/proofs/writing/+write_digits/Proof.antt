@@ -1,6 +1,6 @@
-use native.Mathlib.Omega.{arith}
+-- `write_digits` meets its contract.
 use borrow.Author.Needs.{needs}
-use Rattle.text.proofs.WritingLaws.{wrote-digits-none, wrote-digits-next}
+use Rattle.text.proofs.DigitLaws.{wrote-digits-none, wrote-digits-next}
 use Prim.Native.Nat.{ℕ, _<_}
 use borrow.Fn.Kinds.{In}
 use borrow.Fn.PlainCycle.{Measures, is, falls, and}
@@ -31,35 +31,27 @@ write-digits-below t =
 abbrev calls : ℕ → write-digits-lts.Claims
 calls t = (past-reads.Asked, past-reads.Learnt, write-digits-below t, write-digits.Post, hex-digit-reads.Asked, hex-digit-reads.Learnt, write-byte-reads.Asked, write-byte-reads.Learnt)
 
--- src/writing.rt:83:9
 write-digits-past-requires : (t : ℕ) → write-digits-lts.Need-past-requires (calls t) (write-digits-at t) write-digits.Post
 write-digits-past-requires t c κs = search needs
 
--- src/writing.rt:83:9
 write-digits-returns : (t : ℕ) → write-digits-lts.Need-returns (calls t) (write-digits-at t) write-digits.Post
 write-digits-returns t c = wrote-digits-none _ _ (search needs) (search needs) (search needs)
 
--- src/writing.rt:85:36
 write-digits-sub-write-digits : (t : ℕ) → write-digits-lts.Need-sub-write-digits (calls t) (write-digits-at t) write-digits.Post
 write-digits-sub-write-digits t c = search needs
 
--- src/writing.rt:85:9
 write-digits-write-digits-requires : (t : ℕ) → write-digits-lts.Need-write-digits-requires (calls t) (write-digits-at t) write-digits.Post
 write-digits-write-digits-requires t c κs = search needs
 
--- src/writing.rt:86:25
 write-digits-hex-digit-requires : (t : ℕ) → write-digits-lts.Need-hex-digit-requires (calls t) (write-digits-at t) write-digits.Post
 write-digits-hex-digit-requires t c κs = search needs
 
--- src/writing.rt:86:5
 write-digits-write-byte-requires : (t : ℕ) → write-digits-lts.Need-write-byte-requires (calls t) (write-digits-at t) write-digits.Post
 write-digits-write-byte-requires t c κs = search needs
 
--- src/writing.rt:79:1
 write-digits-same-length : (t : ℕ) → write-digits-lts.Need-same-length (calls t) (write-digits-at t) write-digits.Post
 write-digits-same-length t c = search needs
 
--- src/writing.rt:79:1
 write-digits-returns-2 : (t : ℕ) → write-digits-lts.Need-returns-2 (calls t) (write-digits-at t) write-digits.Post
 write-digits-returns-2 t c = search wrote-digits-next
 

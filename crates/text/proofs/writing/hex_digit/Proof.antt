@@ -1,31 +1,24 @@
-use Rattle.text.proofs.WritingLaws.{hex-below-ten, hex-from-ten}
+-- `hex_digit` meets its contract.
+use Rattle.text.proofs.DigitLaws.{hex-below-ten, hex-from-ten}
 use borrow.Author.Needs.{needs}
 use Rattle.text.proofs.writing.hex_digit.Statement.{statement}
 use Rattle.text.proofs.writing.hex_digit.Tie as tie
-use Rattle.text.proofs.writing.hex_digit.Reads as reads
-use Rattle.text.proofs.writing.hex_digit.Lts as lts
 
--- src/writing.rt:67:29
 cast-result : tie.Need-cast-result
 cast-result c = search needs
 
--- src/writing.rt:67:16
 add-result : tie.Need-add-result
 add-result c = search needs
 
--- src/writing.rt:67:9
 returns : tie.Need-returns
 returns c = search hex-below-ten
 
--- src/writing.rt:69:15
 cast-result-2 : tie.Need-cast-result-2
 cast-result-2 c = search needs
 
--- src/writing.rt:69:5
 add-result-2 : tie.Need-add-result-2
 add-result-2 c = search needs
 
--- src/writing.rt:62:1
 returns-2 : tie.Need-returns-2
 returns-2 c = search hex-from-ten
 

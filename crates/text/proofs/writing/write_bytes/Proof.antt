@@ -1,3 +1,4 @@
+-- `write_bytes` meets its contract.
 use borrow.Author.Needs.{needs}
 use native.Mathlib.Omega.{arith}
 use Prim.Native.Nat.{_≤_, _-_}
@@ -6,10 +7,6 @@ use Rattle.text.specs.Written.{Wrote}
 use Rattle.text.proofs.WritingLaws.{wrote-none, wrote-byte-more, wrote-all, wrote-length}
 use Rattle.text.proofs.writing.write_bytes.Statement.{statement}
 use Rattle.text.proofs.writing.write_bytes.Tie as tie
-use Rattle.text.proofs.writing.write_bytes.Reads as reads
-use Rattle.text.proofs.writing.write_bytes.Lts as lts
-use Rattle.text.proofs.writing.past.Reads as past-reads
-use Rattle.text.proofs.writing.write_byte.Reads as write-byte-reads
 
 abbrev Inv-loop : tie.InvT-loop
 Inv-loop out₀ at bytes to₀ i₀ out to i = (i ≤ length bytes) × Wrote (take i bytes) at out₀ out to
@@ -17,39 +14,30 @@ Inv-loop out₀ at bytes to₀ i₀ out to i = (i ≤ length bytes) × Wrote (ta
 abbrev μ-loop : tie.MeasureT-loop
 μ-loop out₀ at bytes to₀ i₀ out to i = length bytes - i
 
--- src/writing.rt:41:9
 past-requires : tie.Need-past-requires Inv-loop μ-loop
 past-requires c κs = search needs
 
--- src/writing.rt:43:5
 loop-holds : tie.Need-loop-holds Inv-loop μ-loop
 loop-holds c = (search needs, search (wrote-none, arith))
 
--- src/writing.rt:44:34
 shared-slice-read-write-byte : tie.Need-shared-slice-read-write-byte Inv-loop μ-loop
 shared-slice-read-write-byte c = search needs
 
--- src/writing.rt:44:9
 write-byte-requires : tie.Need-write-byte-requires Inv-loop μ-loop
 write-byte-requires c κs = search needs
 
--- src/writing.rt:45:9
 add-i : tie.Need-add-i Inv-loop μ-loop
 add-i c = search needs
 
--- src/writing.rt:43:5
 loop-less : tie.Need-loop-less Inv-loop μ-loop
 loop-less c = search needs
 
--- src/writing.rt:43:5
 loop-again : tie.Need-loop-again Inv-loop μ-loop
 loop-again c = (search needs, search wrote-byte-more)
 
--- src/writing.rt:38:1
 same-length : tie.Need-same-length Inv-loop μ-loop
 same-length c = search wrote-length
 
--- src/writing.rt:38:1
 returns : tie.Need-returns Inv-loop μ-loop
 returns c = search wrote-all
 

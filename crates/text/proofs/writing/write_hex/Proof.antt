@@ -1,20 +1,15 @@
+-- `write_hex` meets its contract.
 use Rattle.rules.specs.Text.{hex}
 use borrow.Author.Needs.{needs}
 use Rattle.text.proofs.writing.write_hex.Statement.{statement}
 use Rattle.text.proofs.writing.write_hex.Tie as tie
-use Rattle.text.proofs.writing.write_hex.Reads as reads
-use Rattle.text.proofs.writing.write_hex.Lts as lts
-use Rattle.text.proofs.writing.write_digits.Reads as write-digits-reads
 
--- src/writing.rt:93:5
 write-digits-requires : tie.Need-write-digits-requires
 write-digits-requires c κs = search needs
 
--- src/writing.rt:90:1
 same-length : tie.Need-same-length
 same-length c = search needs
 
--- src/writing.rt:90:1
 returns : tie.Need-returns
 unfolding hex
 returns c = search needs

@@ -1,4 +1,6 @@
-use Rattle.text.proofs.WritingLaws.{wrote-none, wrote-word-more, wrote-pieces, wrote-length}
+-- `write_words` meets its contract.
+use Rattle.text.proofs.WritingLaws.{wrote-none, wrote-length}
+use Rattle.text.proofs.SpacedLaws.{wrote-word-more, wrote-pieces}
 use borrow.Author.Needs.{needs}
 use Prim.Native.Nat.{_≤_, _-_}
 use lib.ListN.{length, take}
@@ -7,11 +9,6 @@ use Rattle.rules.specs.Text.{spaced, hex}
 use Rattle.text.specs.Written.{Wrote}
 use Rattle.text.proofs.writing.write_words.Statement.{statement}
 use Rattle.text.proofs.writing.write_words.Tie as tie
-use Rattle.text.proofs.writing.write_words.Reads as reads
-use Rattle.text.proofs.writing.write_words.Lts as lts
-use Rattle.text.proofs.writing.past.Reads as past-reads
-use Rattle.text.proofs.writing.write_gap.Reads as write-gap-reads
-use Rattle.text.proofs.writing.write_hex.Reads as write-hex-reads
 
 abbrev Inv-loop : tie.InvT-loop
 Inv-loop out₀ at words to₀ i₀ out to i = (i ≤ length words) × Wrote (spaced (map hex (take i words))) at out₀ out to
@@ -19,48 +16,37 @@ Inv-loop out₀ at words to₀ i₀ out to i = (i ≤ length words) × Wrote (sp
 abbrev μ-loop : tie.MeasureT-loop
 μ-loop out₀ at words to₀ i₀ out to i = length words - i
 
--- src/writing.rt:119:9
 past-requires : tie.Need-past-requires Inv-loop μ-loop
 past-requires c κs = search needs
 
--- src/writing.rt:121:5
 loop-holds : tie.Need-loop-holds Inv-loop μ-loop
 unfolding spaced
 loop-holds c = (search needs, wrote-none _ _ _ (search needs) (search needs))
 
--- src/writing.rt:122:13
 write-gap-requires : tie.Need-write-gap-requires Inv-loop μ-loop
 write-gap-requires c κs = search needs
 
--- src/writing.rt:123:35
 mul-write-hex : tie.Need-mul-write-hex Inv-loop μ-loop
 mul-write-hex c = search needs
 
--- src/writing.rt:123:35
 shared-slice-read-write-hex : tie.Need-shared-slice-read-write-hex Inv-loop μ-loop
 shared-slice-read-write-hex c = search needs
 
--- src/writing.rt:123:9
 write-hex-requires : tie.Need-write-hex-requires Inv-loop μ-loop
 write-hex-requires c κs = search needs
 
--- src/writing.rt:124:9
 add-i : tie.Need-add-i Inv-loop μ-loop
 add-i c = search needs
 
--- src/writing.rt:121:5
 loop-less : tie.Need-loop-less Inv-loop μ-loop
 loop-less c = search needs
 
--- src/writing.rt:121:5
 loop-again : tie.Need-loop-again Inv-loop μ-loop
 loop-again c = (search needs, search wrote-word-more)
 
--- src/writing.rt:116:1
 same-length : tie.Need-same-length Inv-loop μ-loop
 same-length c = search wrote-length
 
--- src/writing.rt:116:1
 returns : tie.Need-returns Inv-loop μ-loop
 returns c = search wrote-pieces
 
