@@ -10,11 +10,10 @@ use mathlib.Core.Option.{some}
 use lib.ListN.{length}
 use Rattle.rules.specs.State.{Message, Process, State, inPool}
 use Rattle.rules.specs.Listing.{nameText, messageText, flightText, newestName, processLines, listing}
-use Rattle.rules.specs.Text.{line, spaced}
 use Rattle.text.specs.declared.listing.Newest.{Newest}
 use Rattle.text.specs.Written.{Wrote}
 use Rattle.text.proofs.WritingLaws.{wrote-then}
-use Rattle.text.specs.Lines.{nameBase, nameIn, newestText, newestBytes, processesLine, pidLine, historyLine, newestLine, queueLine, wordsLine, processText}
+use Rattle.text.specs.Lines.{nameBase, nameIn, newestText, newestBytes, processesLine, pidLine, historyLine, newestLine, queueLine, wordsLine, flightLine, processText}
 
 -- the newest entry's kind is known
 pub wrote-kind : (newest kind : Newest) {old new : List ℕ} {at e : ℕ} → newest ≡ kind → Wrote (newestBytes kind) at old new e → Wrote (newestBytes newest) at old new e
@@ -54,8 +53,8 @@ module _ (text : ℕ → List ℕ) where
   wrote-no-place n z w = rw (joined-next n, z, append-nil (joined (map text (upTo n)))) w
 
 -- the whole listing
-pub wrote-listing : (s : State) (n : ℕ) {old mid mid′ new : List ℕ} {at b b′ e : ℕ} → n ≡ length (keep (inPool s) (upTo (s .sizes .places))) → Wrote (processesLine n) at old mid b
-    → Wrote (joined (map (λ p. processLines p (s .queues p) (s .processes p)) (upTo (s .sizes .places)))) b mid mid′ b′ → Wrote (line "flight=" (spaced (map flightText (flight s)))) b′ mid′ new e
+pub wrote-listing : (s : State) (n : ℕ) (names : List ℕ) {old mid mid′ new : List ℕ} {at b b′ e : ℕ} → n ≡ length (keep (inPool s) (upTo (s .sizes .places))) → map nameIn names ≡ map flightText (flight s)
+    → Wrote (processesLine n) at old mid b → Wrote (joined (map (λ p. processLines p (s .queues p) (s .processes p)) (upTo (s .sizes .places)))) b mid mid′ b′ → Wrote (flightLine names) b′ mid′ new e
     → Wrote (listing s) at old new e
-unfolding listing processesLine
-wrote-listing s n i w v f = wrote-then (wrote-then (rw i at w) v) f
+unfolding listing processesLine flightLine
+wrote-listing s n names i q w v f = wrote-then (wrote-then (rw i at w) v) (rw q at f)

@@ -42,6 +42,9 @@ newestLine newest = line "newest=" (newestBytes newest)
 unfoldable pub queueLine : List ℕ → List ℕ
 queueLine names = line "queue=" (spaced (map nameIn names))
 
+unfoldable pub flightLine : List ℕ → List ℕ
+flightLine names = line "flight=" (spaced (map nameIn names))
+
 unfoldable pub wordsLine : List ℕ → List ℕ
 wordsLine words = line "words=" (spaced (map hex words))
 

@@ -1,4 +1,5 @@
 // The lines of the listing.
+use crate::keys::FLIGHT;
 use crate::keys::HISTORY;
 use crate::keys::KIND_CHECK;
 use crate::keys::KIND_NONE;
@@ -22,7 +23,7 @@ use crate::writing::write_words;
 ghost use mathlib.Core.List.{List, map};
 ghost use Rattle.rules.specs.Text.{spaced};
 ghost use Rattle.text.specs.Written.{Wrote};
-ghost use Rattle.text.specs.Lines.{nameIn, processesLine, pidLine, historyLine, newestBytes, newestLine, queueLine, wordsLine, processText};
+ghost use Rattle.text.specs.Lines.{nameIn, processesLine, pidLine, historyLine, newestBytes, newestLine, queueLine, wordsLine, flightLine, processText};
 
 // The kind of a process's newest entry.
 pub enum Newest {
@@ -103,6 +104,15 @@ pub fn write_queue(out: &mut [u8], at: usize, names: &[u32]) -> usize
     ensures { λ r. ⌜ Wrote (queueLine (now (names .entry))) at (now (out .entry)) (now (out .exit)) r ⌝ }
 {
     let to = write_bytes(out, at, &QUEUE);
+    let end = write_names(out, to, names);
+    write_line_feed(out, end)
+}
+
+// The messages in flight, by sender, then count.
+pub fn write_flight(out: &mut [u8], at: usize, names: &[u32]) -> usize
+    ensures { λ r. ⌜ Wrote (flightLine (now (names .entry))) at (now (out .entry)) (now (out .exit)) r ⌝ }
+{
+    let to = write_bytes(out, at, &FLIGHT);
     let end = write_names(out, to, names);
     write_line_feed(out, end)
 }
