@@ -15,7 +15,7 @@ ghost use Rattle.rules.specs.Commands.{step, spawnInto, deliver, back, undelive
 ghost use Rattle.rules.specs.Line.{parseLine, number, ofByte, digitsSay, split, oneNumber, twoNumbers, single, rollbackTo};
 ghost use Rattle.text.specs.Requests.{Begins, numberOf, ReadsPair, requestOf};
 
-// The longest number that a line may hold.
+// The greatest number that a line may hold.
 const MOST: u32 = 255;
 
 // A number, or that the text is none.
@@ -114,6 +114,7 @@ pub fn read_pair(text: &[u8]) -> Pair
     Pair::Values(a, b)
 }
 
+// The command of a line, from what follows `step=`.
 fn step_line(numbers: &[u8]) -> Line
     ensures { λ r. ⌜ requestOf r ≡ oneNumber (λ p. single (step p)) (split comma (now (numbers .entry))) ⌝ }
 {
@@ -123,6 +124,7 @@ fn step_line(numbers: &[u8]) -> Line
     Line::Step(p)
 }
 
+// From what follows `spawn=`.
 fn spawn_line(numbers: &[u8]) -> Line
     ensures { λ r. ⌜ requestOf r ≡ twoNumbers (λ p f. single (spawnInto p f)) (split comma (now (numbers .entry))) ⌝ }
 {
@@ -132,6 +134,7 @@ fn spawn_line(numbers: &[u8]) -> Line
     Line::Spawn(p, f)
 }
 
+// From what follows `deliver=`.
 fn deliver_line(numbers: &[u8]) -> Line
     ensures { λ r. ⌜ requestOf r ≡ twoNumbers (λ s k. single (deliver s k)) (split comma (now (numbers .entry))) ⌝ }
 {
@@ -141,6 +144,7 @@ fn deliver_line(numbers: &[u8]) -> Line
     Line::Deliver(s, k)
 }
 
+// From what follows `back=`.
 fn back_line(numbers: &[u8]) -> Line
     ensures { λ r. ⌜ requestOf r ≡ oneNumber (λ p. single (back p)) (split comma (now (numbers .entry))) ⌝ }
 {
@@ -150,6 +154,7 @@ fn back_line(numbers: &[u8]) -> Line
     Line::Back(p)
 }
 
+// From what follows `undeliver=`.
 fn undeliver_line(numbers: &[u8]) -> Line
     ensures { λ r. ⌜ requestOf r ≡ oneNumber (λ p. single (undeliver p)) (split comma (now (numbers .entry))) ⌝ }
 {
@@ -159,6 +164,7 @@ fn undeliver_line(numbers: &[u8]) -> Line
     Line::Undeliver(p)
 }
 
+// From what follows `rollback=`.
 fn rollback_line(numbers: &[u8]) -> Line
     ensures { λ r. ⌜ requestOf r ≡ twoNumbers rollbackTo (split comma (now (numbers .entry))) ⌝ }
 {

@@ -13,6 +13,12 @@ ghost use Rattle.text.specs.Written.{Wrote, onward, gap};
 // A position that no slice of bytes reaches: positions stop there.
 const FAR: usize = 9223372036854775808;
 
+// The digit of ten, in upper case.
+const HEX_TEN: u8 = b'A';
+
+// How many hexadecimal digits a word has.
+const WORD_DIGITS: u32 = 8;
+
 // The position after n bytes more.
 pub fn past(at: usize, n: usize) -> usize
     ensures { λ r. ⌜ r ≡ onward (at + n) ⌝ }
@@ -71,12 +77,6 @@ fn hex_digit(d: u32) -> u8
     }
     HEX_TEN + (d - 10) as u8
 }
-
-// The digit of ten, in upper case.
-const HEX_TEN: u8 = b'A';
-
-// How many hexadecimal digits a word has.
-const WORD_DIGITS: u32 = 8;
 
 // The last so many hexadecimal digits of a word.
 pub fn write_digits(out: &mut [u8], at: usize, digits: u32, w: u32) -> usize
