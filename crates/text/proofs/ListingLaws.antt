@@ -1,0 +1,60 @@
+-- Laws of the listing's lines.
+use mathlib.Core.Path.{_≡_, sym, ap, _∙_}
+use mathlib.Core.List.{List, [], _∷_, _++_, map, map-append, append-nil, append-assoc}
+use Prim.Native.Nat.{ℕ, _+_, _*_, _/_, _%_, _<_}
+use native.Mathlib.Omega.{arith}
+use native.Mathlib.Numerals.{add-one}
+use Rattle.lists.specs.Lists.{keep, joined, upTo}
+use Rattle.rules.specs.Flight.{flight}
+use mathlib.Core.Option.{some}
+use lib.ListN.{length}
+use Rattle.rules.specs.State.{Message, Process, State, inPool}
+use Rattle.rules.specs.Listing.{nameText, messageText, flightText, newestName, processLines, listing}
+use Rattle.text.specs.declared.listing.Newest.{Newest}
+use Rattle.text.specs.Written.{Wrote}
+use Rattle.text.proofs.WritingLaws.{wrote-then}
+use Rattle.text.specs.Lines.{nameBase, nameIn, newestText, newestBytes, processesLine, pidLine, historyLine, newestLine, queueLine, wordsLine, flightLine, processText}
+
+-- the newest entry's kind is known
+pub wrote-kind : (newest kind : Newest) {old new : List ℕ} {at e : ℕ} → newest ≡ kind → Wrote (newestBytes kind) at old new e → Wrote (newestBytes newest) at old new e
+wrote-kind newest kind i w = rw i w
+
+-- a name in a word
+pub name-in : (s k : ℕ) → k < nameBase → nameIn (s * nameBase + k) ≡ nameText s k
+unfolding nameIn
+name-in s k h =
+    let q : (s * nameBase + k) / nameBase ≡ s = omega arith in
+    let r : (s * nameBase + k) % nameBase ≡ k = omega arith in
+    rw (q, r)
+
+-- the five lines of a process
+pub process-lines : (p : ℕ) (process : Process) (queue : List Message) (entries : ℕ) (newest : Newest) (names words : List ℕ)
+    → entries ≡ length (process .history) → newestText newest ≡ newestName (process .history) → map nameIn names ≡ map messageText queue → words ≡ process .control
+    → processText p entries newest names words ≡ processLines p queue (some process)
+unfolding processText pidLine historyLine newestBytes newestLine queueLine wordsLine processLines
+process-lines p process queue entries newest names words e n q w = rw (e, n, q, w)
+
+-- the texts of all places below one, and of that one too
+joined-last : (xs : List (List ℕ)) (x : List ℕ) → joined (xs ++ (x ∷ [])) ≡ joined xs ++ x
+unfolding joined
+joined-last [] x = append-nil x
+joined-last (y ∷ ys) x = ap (λ (r : List ℕ). y ++ r) (joined-last ys x) ∙ sym (append-assoc y (joined ys) x)
+
+module _ (text : ℕ → List ℕ) where
+  joined-next : (n : ℕ) → joined (map text (upTo (n + 1))) ≡ joined (map text (upTo n)) ++ text n
+  unfolding upTo
+  joined-next n = rw (add-one n) (ap joined (map-append text (upTo n) (n ∷ [])) ∙ joined-last (map text (upTo n)) (text n))
+
+  pub wrote-place : (n : ℕ) {old mid new : List ℕ} {at b e : ℕ} → Wrote (joined (map text (upTo n))) at old mid b → Wrote (text n) b mid new e → Wrote (joined (map text (upTo (n + 1)))) at old new e
+  wrote-place n w v = rw (joined-next n) (wrote-then w v)
+
+  -- a place with no process has no lines
+  pub wrote-no-place : (n : ℕ) {old new : List ℕ} {at e : ℕ} → text n ≡ [] → Wrote (joined (map text (upTo n))) at old new e → Wrote (joined (map text (upTo (n + 1)))) at old new e
+  wrote-no-place n z w = rw (joined-next n, z, append-nil (joined (map text (upTo n)))) w
+
+-- the whole listing
+pub wrote-listing : (s : State) (n : ℕ) (names : List ℕ) {old mid mid′ new : List ℕ} {at b b′ e : ℕ} → n ≡ length (keep (inPool s) (upTo (s .sizes .places))) → map nameIn names ≡ map flightText (flight s)
+    → Wrote (processesLine n) at old mid b → Wrote (joined (map (λ p. processLines p (s .queues p) (s .processes p)) (upTo (s .sizes .places)))) b mid mid′ b′ → Wrote (flightLine names) b′ mid′ new e
+    → Wrote (listing s) at old new e
+unfolding listing processesLine flightLine
+wrote-listing s n names i q w v f = wrote-then (wrote-then (rw i at w) v) (rw q at f)

@@ -1,0 +1,4 @@
+pub mod Lines
+pub mod Pieces
+pub mod Requests
+pub mod Written
