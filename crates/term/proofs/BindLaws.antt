@@ -1,18 +1,18 @@
 -- What the code's walk over patterns returns, by the tests that it makes.
-use Prim.Native.Nat.{ℕ, zero, suc, _+_, _-_, _≤_, _<_}
+use Prim.Native.Nat.{ℕ, suc, _+_, _-_, _≤_, _<_}
 use mathlib.Core.Path.{_≡_, refl, sym, ap, _∙_}
 use mathlib.Core.Bool.{Bool, true, false}
-use mathlib.Core.List.{List, [], _∷_, _++_}
+use mathlib.Core.List.{List, _∷_}
 use native.Mathlib.Omega.{arith}
 use native.Mathlib.Nat.{add-zero}
 use native.Mathlib.Numerals.{add-one}
 use lib.Dec.{eqb}
-use lib.ListN.{length, getD, set, length-append}
+use lib.ListN.{length, getD, set}
 use Rattle.lists.specs.Lists.{member}
 use Rattle.lists.proofs.Tests.{eqb-of, eqb-apart}
 use Rattle.term.specs.Words.{tagOf, nOf, kOf, tagInteger, tagVariable}
 use Rattle.term.specs.Table.{arity, table, rowOf, childCount}
-use Rattle.term.specs.Tree.{Term, Terms, int, node, end, _then_, words, wordsOf, count}
+use Rattle.term.specs.Tree.{Terms, int, node, end, _then_, words, wordsOf, count}
 use Rattle.term.specs.Binding.{Walk, breaks, passes, andThen, binds, bindsAll}
 use Rattle.term.specs.Kinds.{ChildCount}
 use Rattle.term.specs.declared.binding.Gone.{Gone}
@@ -21,7 +21,7 @@ use Rattle.term.specs.Walking.{Marks, Stands, Agrees, Onward, Binds}
 use Rattle.term.proofs.TreeLaws.{_andAll_, words-all, count-all}
 use Rattle.term.proofs.ShapeLaws.{fits-parts}
 use Rattle.term.proofs.MarkLaws.{mark-more, variable-k}
-use Rattle.term.proofs.StandLaws.{IntegerHere, NodeHere, stands-within, stands-none, stands-second, stands-integer, stands-node}
+use Rattle.term.proofs.StandLaws.{NodeHere, stands-within, stands-none, stands-second, stands-integer, stands-node}
 
 -- what comes after two walks comes after the second of them
 pub then-then : (w : Walk) (f g h : ℕ → List ℕ → List ℕ → Walk) → ((at : ℕ) (scope checks : List ℕ) → f at scope checks ≡ andThen (g at scope checks) h) → andThen w f ≡ andThen (andThen w g) h

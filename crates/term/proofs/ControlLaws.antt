@@ -1,19 +1,18 @@
 -- What the code's control check returns, by the tests that it makes.
-use Prim.Native.Nat.{ℕ, zero, suc, _+_, _≤_, _<_}
+use Prim.Native.Nat.{ℕ, suc, _+_, _≤_, _<_}
 use mathlib.Core.Path.{_≡_, refl, sym, ap, _∙_}
 use mathlib.Core.Bool.{Bool, true, false}
-use mathlib.Core.Option.{Option, none, some}
-use mathlib.Core.List.{List, [], _∷_, _++_, append-nil}
-use native.Mathlib.Omega.{arith}
-use lib.ListN.{length, getD, drop, replicate, length-replicate, getD-replicate, drop-of-length-le}
+use mathlib.Core.Option.{none, some}
+use mathlib.Core.List.{List, [], _∷_, append-nil}
+use lib.ListN.{length, getD, replicate, length-replicate, getD-replicate, drop-of-length-le}
 use mir.Val.{Fits}
 use mir.Syntax.{w32}
 use Rattle.lists.specs.Lists.{member, All}
 use Rattle.term.specs.Table.{spotExpression}
-use Rattle.term.specs.Tree.{Term, Terms, _then_, end, words, wordsOf, count}
+use Rattle.term.specs.Tree.{Term, _then_, end, wordsOf, count}
 use Rattle.term.specs.Read.{termOf}
 use Rattle.term.specs.Shape.{shape, wanted, controlShape}
-use Rattle.term.specs.Fit.{Fit, FitAll}
+use Rattle.term.specs.Fit.{FitAll}
 use Rattle.term.specs.Binding.{Walk, breaks, passes, andThen, keeps, keepsAll}
 use Rattle.term.specs.Module.{breaker}
 use Rattle.term.specs.Control.{keepsRules, goodControl}

@@ -16,3 +16,5 @@ pub mod ModuleLaws
 pub mod FunctionLaws
 pub mod RuleLaws
 pub mod CheckLaws
+pub mod PlaceLaws
+pub mod GoodLaws

@@ -1,16 +1,15 @@
 -- Marks for numbers: what one more mark says, and the rule for one word by the tests of the code.
-use Prim.Native.Nat.{ℕ, zero, suc, _+_, _-_, _≤_, _<_}
-use mathlib.Core.Path.{_≡_, refl, sym, ap, _∙_}
-use mathlib.Core.Bool.{Bool, true, false, cond, not, _&&_, _||_}
-use mathlib.Core.Option.{Option, none, some}
-use mathlib.Core.List.{List, [], _∷_, _++_}
+use Prim.Native.Nat.{ℕ, zero, suc, _≤_, _<_}
+use mathlib.Core.Path.{_≡_, refl, sym, _∙_}
+use mathlib.Core.Bool.{Bool, true, false, not, _&&_, _||_}
+use mathlib.Core.List.{List, [], _∷_}
 use native.Mathlib.Omega.{arith}
 use native.Mathlib.Decide.{ℕ-discrete}
 use lib.Dec.{eqb}
-use lib.ListN.{length, getD, set, getElem?, length-set}
+use lib.ListN.{length, getD, set, length-set}
 use lib.Seq.{getD-set-same, getD-set-other}
-use Rattle.lists.specs.Lists.{member, upTo}
-use Rattle.lists.proofs.Tests.{eqb-of, eqb-same, eqb-apart, not-true, not-false, cond-true, cond-false}
+use Rattle.lists.specs.Lists.{member}
+use Rattle.lists.proofs.Tests.{eqb-of, eqb-same, eqb-apart, not-true, not-false}
 use Rattle.term.specs.Words.{tagOf, nOf, kOf, tagVariable, tagApply, tagSpawn, tagLet, tagCheck}
 use Rattle.term.specs.Table.{table, rowOf, kLimit, fits}
 use Rattle.term.specs.Binding.{names, keepsRule, checksAfter}

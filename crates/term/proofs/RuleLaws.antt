@@ -1,10 +1,9 @@
 -- The functions of a well-shaped module, gone through one after another for the rules.
-use Prim.Native.Nat.{ℕ, zero, suc, _+_, _-_, _≤_, _<_}
+use Prim.Native.Nat.{ℕ, zero, suc, _+_, _≤_, _<_}
 use mathlib.Core.Path.{_≡_, refl, sym, ap, _∙_}
-use mathlib.Core.Logic.{_⊎_, inl, inr}
-use mathlib.Core.Bool.{Bool, true, false, _||_}
-use mathlib.Core.Option.{Option, none, some}
-use mathlib.Core.List.{List, [], _∷_, _++_, append-nil}
+use mathlib.Core.Logic.{inl, inr}
+use mathlib.Core.Bool.{Bool, true, false}
+use mathlib.Core.List.{List, [], _++_}
 use native.Mathlib.Omega.{arith}
 use native.Mathlib.Numerals.{add-one}
 use lib.Dec.{eqb}
@@ -13,11 +12,10 @@ use Rattle.lists.specs.Lists.{member, upTo}
 use Rattle.lists.proofs.Tests.{eqb-true, or-true, true-not-false}
 use Rattle.term.specs.Words.{word, tagOf, nOf, tagFunction}
 use Rattle.term.specs.Table.{table, rowOf, childCount, arity, tagsAt, fits, childSpots, spotFunction}
-use Rattle.term.specs.Tree.{Term, Terms, int, node, end, _then_, words, wordsOf, count}
+use Rattle.term.specs.Tree.{Terms, int, node, end, _then_, words, wordsOf}
 use Rattle.term.specs.Fit.{Fit, FitAll}
-use Rattle.term.specs.Binding.{Walk, breaks, passes, andThen, keepsAll, functionKeeps, functionsKeep}
+use Rattle.term.specs.Binding.{Walk, andThen, keepsAll, functionKeeps, functionsKeep}
 use Rattle.term.specs.Module.{breaker}
-use Rattle.term.specs.declared.module.Checked.{Checked}
 use Rattle.term.specs.declared.module.Checked.the-variants.{Good, Bad}
 use Rattle.term.specs.declared.binding.Gone.{Gone}
 use Rattle.term.specs.declared.binding.Gone.the-variants.{Past, Broke}
@@ -26,7 +24,7 @@ use Rattle.term.specs.Checking.{badOf, KeepsFunctions}
 use Rattle.term.proofs.WordLaws.{tag-word, n-word}
 use Rattle.term.proofs.RowLaws.{drop-head}
 use Rattle.term.proofs.ShapeLaws.{fits-parts}
-use Rattle.term.proofs.StandLaws.{Here, here, drop-past}
+use Rattle.term.proofs.StandLaws.{here, drop-past}
 use Rattle.term.proofs.WalkLaws.{agrees-broke, agrees-past}
 use Rattle.term.proofs.ControlLaws.{no-marks}
 use Rattle.term.proofs.FunctionLaws.{no-integer-function, no-words}

@@ -1,8 +1,8 @@
 -- What the code's walk outside patterns returns, by the tests that it makes.
-use Prim.Native.Nat.{ℕ, zero, suc, _+_, _-_, _≤_, _<_}
+use Prim.Native.Nat.{ℕ, suc, _+_, _-_, _≤_, _<_}
 use mathlib.Core.Path.{_≡_, refl, sym, ap, _∙_, subst}
 use mathlib.Core.Bool.{Bool, true, false, not}
-use mathlib.Core.List.{List, [], _∷_, _++_}
+use mathlib.Core.List.{List, _∷_}
 use native.Mathlib.Omega.{arith}
 use native.Mathlib.Nat.{add-zero}
 use native.Mathlib.Numerals.{add-one}
@@ -11,15 +11,15 @@ use lib.ListN.{length, getD, length-append}
 use Rattle.lists.proofs.Tests.{eqb-of, eqb-apart, not-true, not-false}
 use Rattle.term.specs.Words.{tagOf, nOf, kOf, tagInteger, tagLet, tagClause}
 use Rattle.term.specs.Table.{arity, table, rowOf, childCount}
-use Rattle.term.specs.Tree.{Term, Terms, int, node, end, _then_, words, wordsOf, count}
+use Rattle.term.specs.Tree.{Term, Terms, node, end, _then_, wordsOf, count}
 use Rattle.term.specs.Binding.{Walk, breaks, passes, andThen, binds, bindsAll, keepsRule, checksAfter, keeps, keepsAll, keepsLet, keepsClause}
 use Rattle.term.specs.Kinds.{ChildCount}
 use Rattle.term.specs.declared.binding.Gone.{Gone}
 use Rattle.term.specs.declared.binding.Gone.the-variants.{Past, Broke}
 use Rattle.term.specs.Walking.{Marks, Stands, Agrees, Onward, Binds, Rules, Keeps, KeepsBoth}
-use Rattle.term.proofs.TreeLaws.{_andAll_, words-all, count-all}
+use Rattle.term.proofs.TreeLaws.{_andAll_, words-all}
 use Rattle.term.proofs.ShapeLaws.{fits-parts}
-use Rattle.term.proofs.StandLaws.{IntegerHere, NodeHere, stands-none, stands-first, stands-second, stands-integer, stands-node}
+use Rattle.term.proofs.StandLaws.{NodeHere, stands-none, stands-first, stands-second, stands-integer, stands-node}
 use Rattle.term.proofs.BindLaws.{then-then, onward-from, agrees-with, none-past, none-short, integer-stop, node-stop, node-next}
 
 -- a walk that broke, and one that passed

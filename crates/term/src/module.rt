@@ -30,7 +30,7 @@ pub enum Functions {
 }
 
 // The scope of a function's parameters: variables 0, 1, .. below their count.
-pub fn parameters(count: usize) -> [bool; 64]
+fn parameters(count: usize) -> [bool; 64]
     ensures { λ r. ⌜ Marks 64 r (upTo count) ⌝ }
 {
     let mut scope = [false; 64];
@@ -70,7 +70,7 @@ pub fn read_functions(row: &[u32], counts: &mut [u32]) -> Functions
 }
 
 // Goes through the functions of a module for the rules.
-pub fn keep_functions(row: &[u32], arities: &[u32]) -> Checked
+fn keep_functions(row: &[u32], arities: &[u32]) -> Checked
     ensures { λ r. ⌜ KeepsFunctions (now (row .entry)) (now (arities .entry)) r ⌝ }
 {
     let mut checks = [false; 256];

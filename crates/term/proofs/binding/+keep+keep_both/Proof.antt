@@ -1,3 +1,4 @@
+-- `term::binding::keep` and `term::binding::keep_both` meet their contracts.
 use borrow.Author.Needs.{needs}
 use Rattle.term.proofs.WalkLaws.{keep-none, keep-past, keep-short, keep-integer, keep-broken, keep-plain, let-broke, let-done, clause-broke, clause-done, both-broke, both-done, onward-past}
 use Prim.Native.Nat.{ℕ, _<_, _-_, _+_, _*_}

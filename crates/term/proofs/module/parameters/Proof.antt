@@ -1,3 +1,4 @@
+-- `term::module::parameters` meets its contract.
 use Prim.Native.Nat.{_≤_, _-_}
 use native.Mathlib.Omega.{arith}
 use borrow.Author.Needs.{needs}
@@ -7,8 +8,6 @@ use Rattle.term.proofs.ControlLaws.{no-marks}
 use Rattle.term.proofs.ModuleLaws.{marks-full, marks-all, marks-next}
 use Rattle.term.proofs.module.parameters.Statement.{statement}
 use Rattle.term.proofs.module.parameters.Tie as tie
-use Rattle.term.proofs.module.parameters.Reads as reads
-use Rattle.term.proofs.module.parameters.Lts as lts
 
 abbrev Inv-loop : tie.InvT-loop
 Inv-loop count scope₀ i₀ scope i = (i ≤ count) × Marks 64 scope (upTo i)
