@@ -182,15 +182,8 @@ pub fn keep(
         return keep_both(row, a, 2, owed - 1, inner, scope, arities, unique, checks);
     }
     meet(w, checks);
-    keep(
-        row,
-        at + 1,
-        owed - 1 + children(w),
-        scope,
-        arities,
-        unique,
-        checks,
-    )
+    let more = owed - 1 + children(w);
+    keep(row, at + 1, more, scope, arities, unique, checks)
 }
 
 // Goes through so many terms in an inner scope, then through so many in the outer one.
