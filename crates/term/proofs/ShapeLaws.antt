@@ -12,19 +12,32 @@ use lib.Dec.{leb, ltb}
 use lib.ListN.{length, getD, replicate, length-append, length-replicate}
 use Rattle.lists.specs.Lists.{member, All}
 use Rattle.lists.proofs.Tests.{eqb-of, eqb-apart, leb-true, ltb-true, and-left, and-right, true-or-false, none-not-some}
+use Rattle.lists.proofs.Every.{all-append}
 use Rattle.term.specs.Words.{word, tagOf, nOf, kOf, integerWord, tagInteger}
 use Rattle.term.specs.Table.{Children, alike, body, ofClause, ofCase, ofReceive, Row, noRow, table, rowOf, childCount, arity, tagsAt, kLimit, fits, ownSpot, spotsBelow, childSpots, spotFunction, spotExpression}
 use Rattle.term.specs.Tree.{Term, Terms, int, node, end, _then_, words, wordsOf, count, first, rest, Whole, WholeAll}
 use Rattle.term.specs.Read.{termsOf, termOf}
 use Rattle.term.specs.Shape.{wanted, shape, shapePayload, moduleShape, controlShape}
 use Rattle.term.proofs.Fit.{Fit, FitAll}
-use Rattle.term.proofs.WordLaws.{tag-word, word-parts}
+use Rattle.term.proofs.WordLaws.{word-small, tag-word, word-parts}
 use Rattle.term.proofs.TreeLaws.{words-one, words-split, count-first}
 use Rattle.term.proofs.ReadLaws.{terms-of-words, term-of-words}
 
 -- every word has 32 bits
 abbrev pub Words32 : List ℕ → Type 0
 Words32 l = All (λ w. w < 4294967296) l
+
+-- the words of whole terms have 32 bits
+mutual
+  unfolding Whole WholeAll words wordsOf All
+
+  pub words-small : (t : Term) → Whole t → Words32 (words t)
+  words-small (int x) h = (omega arith, (h, tt))
+  words-small (node tag n k ts) h = (word-small tag n k (h .0 .tag-fits) (h .0 .n-fits) (h .0 .k-fits), all-words-small ts (h .1))
+
+  pub all-words-small : (ts : Terms) → WholeAll ts → Words32 (wordsOf ts)
+  all-words-small end h = tt
+  all-words-small (t then ts) h = all-append (λ w. w < 4294967296) (words t) (wordsOf ts) (words-small t (h .0)) (all-words-small ts (h .1))
 
 -- (c) well-shaped terms are whole
 mutual

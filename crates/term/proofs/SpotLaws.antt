@@ -13,7 +13,8 @@ use Rattle.lists.proofs.Tests.{eqb-of, eqb-apart, cond-true, cond-false, ltb-tr
 use Rattle.term.specs.Words.{tagOf, nOf, kOf, tagPid, tagCall}
 use Rattle.term.specs.Table.{Children, alike, body, ofClause, ofCase, ofReceive, rowOf, tagsAt, kLimit, fits, ownSpot, spotsBelow, childSpots, spotGuard, spotValue}
 use Rattle.term.specs.Kinds.{kindOf}
-use Rattle.term.specs.Reading.{RunsOf}
+use Rattle.term.specs.declared.shape.Spots.{Spots}
+use Rattle.term.specs.Reading.{RunsOf, oneRun}
 
 -- which of n tags, from one on, stand in a list: 1 where one does
 unfoldable pub flags : List ℕ → (tag n : ℕ) → List ℕ
@@ -216,17 +217,17 @@ module _ (spot w n : ℕ) (en : n ≡ nOf w) (t : ℕ) (et : t ≡ tagOf w) (g :
   unfolding childSpots
   runs-case e = rw (append-nil, en) (below-case (rowOf (tagOf w) .children) spot (tagOf w) (nOf w) (sym kind-is ∙ e))
 
-  pub runs-receive : g ≡ 4 → RunsOf spot w (record { first = 4; firsts = n; second = 1; seconds = 0; third = 1; thirds = 0 })
+  pub runs-receive : g ≡ 4 → (r : Spots) → r ≡ oneRun 4 n → RunsOf spot w r
   unfolding childSpots
-  runs-receive e = rw (append-nil, en) (below-receive (rowOf (tagOf w) .children) spot (tagOf w) (nOf w) (sym kind-is ∙ e))
+  runs-receive e r er = rw (er, append-nil, en) (below-receive (rowOf (tagOf w) .children) spot (tagOf w) (nOf w) (sym kind-is ∙ e))
 
-  pub runs-body : g ≡ 1 → RunsOf spot w (record { first = 1; firsts = 1; second = 1; seconds = 0; third = 1; thirds = 0 })
+  pub runs-body : g ≡ 1 → (r : Spots) → r ≡ oneRun 1 1 → RunsOf spot w r
   unfolding childSpots
-  runs-body e = below-body (rowOf (tagOf w) .children) spot (tagOf w) (nOf w) (sym kind-is ∙ e)
+  runs-body e r er = rw er (below-body (rowOf (tagOf w) .children) spot (tagOf w) (nOf w) (sym kind-is ∙ e))
 
-  pub runs-alike : ¬ (g ≡ 2) → ¬ (g ≡ 3) → ¬ (g ≡ 4) → ¬ (g ≡ 1) → (o : ℕ) → o ≡ ownSpot spot t → RunsOf spot w (record { first = o; firsts = n; second = 1; seconds = 0; third = 1; thirds = 0 })
+  pub runs-alike : ¬ (g ≡ 2) → ¬ (g ≡ 3) → ¬ (g ≡ 4) → ¬ (g ≡ 1) → (o : ℕ) → o ≡ ownSpot spot t → (r : Spots) → r ≡ oneRun o n → RunsOf spot w r
   unfolding childSpots
-  runs-alike a b c d o eo =
-      rw (append-nil, en, eo, et) (
+  runs-alike a b c d o eo r er =
+      rw (er, append-nil, en, eo, et) (
       below-alike (rowOf (tagOf w) .children) spot (tagOf w) (nOf w)
       (λ i. a (kind-is ∙ i)) (λ i. b (kind-is ∙ i)) (λ i. c (kind-is ∙ i)) (λ i. d (kind-is ∙ i)))
