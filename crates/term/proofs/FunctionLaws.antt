@@ -6,7 +6,7 @@ use mathlib.Core.Option.{none, some}
 use mathlib.Core.List.{List, [], _∷_, _++_}
 use native.Mathlib.Omega.{arith}
 use native.Mathlib.Numerals.{add-one}
-use lib.ListN.{length, getD, set, take, drop, replicate, length-append, drop-of-length-le}
+use lib.ListN.{length, getD, set, take, drop, replicate, drop-of-length-le}
 use lib.Seq.{take-suc-set, drop-append-seam}
 use mir.Val.{Fits}
 use mir.Syntax.{w32}
@@ -26,7 +26,7 @@ use Rattle.term.specs.Reading.{onward, Reads}
 use Rattle.term.specs.Checking.{failOf, ReadFunctions}
 use Rattle.term.proofs.WordLaws.{n-word}
 use Rattle.term.proofs.RowLaws.{drop-head}
-use Rattle.term.proofs.TreeLaws.{_andAll_, words-all, count-all, all-end}
+use Rattle.term.proofs.TreeLaws.{length-all, _andAll_, words-all, count-all, all-end}
 use Rattle.term.proofs.ShapeLaws.{shape-terms, shape-misfit, Functions as ShapedFunctions, shaped-module}
 use Rattle.term.proofs.ReadingLaws.{further-ends}
 use Rattle.term.proofs.StandLaws.{here, count-within}
@@ -106,9 +106,6 @@ left-row : (l counts : List ℕ) (at number : ℕ) (ts : Terms) → wordsOf ts �
 left-row l counts at number ts e c =
     let d : l ≡ wordsOf (c .done) ++ wordsOf (c .left) = sym e ∙ ap wordsOf (c .is) ∙ words-all (c .done) (c .left) in
     ap (λ (j : ℕ). drop j l) (c .at-is) ∙ ap (drop (length (wordsOf (c .done)))) d ∙ drop-append-seam (wordsOf (c .done)) (wordsOf (c .left))
-
-length-all : (ts us : Terms) → length (wordsOf (ts andAll us)) ≡ length (wordsOf ts) + length (wordsOf us)
-length-all ts us = ap length (words-all ts us) ∙ length-append (wordsOf ts) (wordsOf us)
 
 pub no-words : (ts : Terms) → length (wordsOf ts) ≡ 0 → ts ≡ end
 unfolding count

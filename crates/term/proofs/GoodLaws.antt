@@ -5,7 +5,7 @@ use mathlib.Core.Bool.{Bool, true, false}
 use mathlib.Core.Option.{Option, none, some}
 use mathlib.Core.List.{List}
 use lib.Dec.{ltb}
-use lib.ListN.{length, replicate}
+use lib.ListN.{length, take, replicate}
 use Rattle.lists.proofs.Tests.{true-not-false, none-not-some, some-injective, ltb-false, ltb-over}
 use Rattle.term.specs.Table.{spotFunction, spotExpression}
 use Rattle.term.specs.Tree.{Term, Terms, words, wordsOf}
@@ -13,10 +13,12 @@ use Rattle.term.specs.Read.{termsOf, termOf}
 use Rattle.term.specs.Shape.{moduleShape, controlShape}
 use Rattle.term.specs.Fit.{Fit, FitAll}
 use Rattle.term.specs.Module.{longestModule, firstBreaker, checkModule}
-use Rattle.term.specs.Control.{keepsRules, goodControl}
+use Rattle.term.specs.Control.{keepsRules, goodControl, moduleArities}
 use Rattle.term.specs.declared.module.Checked.{Checked}
 use Rattle.term.specs.declared.module.Checked.the-variants.{Good, Bad}
-use Rattle.term.specs.Checking.{badOf}
+use Rattle.term.specs.declared.module.Functions.{Functions as ModuleRead}
+use Rattle.term.specs.declared.module.Functions.the-variants.{Count, Fails}
+use Rattle.term.specs.Checking.{badOf, failOf, ReadFunctions}
 use Rattle.term.proofs.ReadLaws.{terms-of-words, term-of-words}
 use Rattle.term.proofs.ShapeLaws.{Words32, Functions, shaped-module, shaped-control, module-shaped, control-shaped, fit-whole, fit-all-whole}
 use Rattle.term.proofs.CheckLaws.{answer, check-is}
@@ -89,3 +91,15 @@ unfolding said
 control-good places arities t f k =
     let same : keepsRules arities (termOf (words t)) ≡ true = ap (keepsRules arities) (term-of-words t (fit-whole places spotExpression t f)) ∙ k in
     control-is places arities (words t) ∙ rw (control-shaped places t f) same
+
+-- reading the functions of a good module passes, and notes their parameter counts
+pub record Noted (l counts : List ℕ) (r : ModuleRead) : Type 0 where
+  pub many : ℕ
+  pub is : r ≡ Count many
+  pub noted : take many counts ≡ moduleArities l
+  pub within : many ≤ length counts
+
+pub good-noted : (l counts : List ℕ) (r : ModuleRead) → moduleShape l ≡ none → ReadFunctions l counts r → Noted l counts r
+unfolding failOf
+good-noted l counts (Count m) e h = let c = h .counted m refl in record { many = m; is = refl; noted = c .0; within = c .1 }
+good-noted l counts (Fails p) e h = none-not-some (sym (h .answer ∙ e))

@@ -19,13 +19,10 @@ use Rattle.term.specs.Tree.{Term, Terms, int, node, end, _then_, words, 
 use Rattle.term.specs.Read.{termsOf, termOf}
 use Rattle.term.specs.Shape.{wanted, shape, shapePayload, moduleShape, controlShape}
 use Rattle.term.proofs.Fit.{Fit, FitAll}
+pub use Rattle.term.proofs.WordLaws.{Words32}
 use Rattle.term.proofs.WordLaws.{word-small, tag-word, word-parts}
 use Rattle.term.proofs.TreeLaws.{words-one, words-split, count-first}
 use Rattle.term.proofs.ReadLaws.{terms-of-words, term-of-words}
-
--- every word has 32 bits
-abbrev pub Words32 : List ℕ → Type 0
-Words32 l = All (λ w. w < 4294967296) l
 
 -- the words of whole terms have 32 bits
 mutual

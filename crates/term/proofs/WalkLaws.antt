@@ -7,7 +7,7 @@ use native.Mathlib.Omega.{arith}
 use native.Mathlib.Nat.{add-zero}
 use native.Mathlib.Numerals.{add-one}
 use lib.Dec.{eqb}
-use lib.ListN.{length, getD, length-append}
+use lib.ListN.{length, getD}
 use Rattle.lists.proofs.Tests.{eqb-of, eqb-apart, not-true, not-false}
 use Rattle.term.specs.Words.{tagOf, nOf, kOf, tagInteger, tagLet, tagClause}
 use Rattle.term.specs.Table.{arity, table, rowOf, childCount}
@@ -17,7 +17,7 @@ use Rattle.term.specs.Kinds.{ChildCount}
 use Rattle.term.specs.declared.binding.Gone.{Gone}
 use Rattle.term.specs.declared.binding.Gone.the-variants.{Past, Broke}
 use Rattle.term.specs.Walking.{Marks, Stands, Agrees, Onward, Binds, Rules, Keeps, KeepsBoth}
-use Rattle.term.proofs.TreeLaws.{_andAll_, words-all}
+use Rattle.term.proofs.TreeLaws.{length-all, _andAll_}
 use Rattle.term.proofs.ShapeLaws.{fits-parts}
 use Rattle.term.proofs.StandLaws.{NodeHere, stands-none, stands-first, stands-second, stands-integer, stands-node}
 use Rattle.term.proofs.BindLaws.{then-then, onward-from, agrees-with, none-past, none-short, integer-stop, node-stop, node-next}
@@ -171,9 +171,6 @@ pub record Parts (l : List ℕ) (at owed m : ℕ) (ts : Terms) (head : Term) (ta
   pub second : Stands l (at + 1 + length (wordsOf (head then end))) m tail
   pub third : Stands l (at + 1 + length (wordsOf (head then end)) + length (wordsOf tail)) (owed - 1) others
   pub stop : at + length (wordsOf ts) ≡ at + 1 + length (wordsOf (head then end)) + length (wordsOf tail) + length (wordsOf others)
-
-length-all : (ts us : Terms) → length (wordsOf (ts andAll us)) ≡ length (wordsOf ts) + length (wordsOf us)
-length-all ts us = ap length (words-all ts us) ∙ length-append (wordsOf ts) (wordsOf us)
 
 parts : (l : List ℕ) (at owed m : ℕ) (ts : Terms) (h : NodeHere l at owed ts) (p : Split (h .children) m) → Parts l at owed m ts (p .head) (p .tail) (h .others)
 unfolding _andAll_ count

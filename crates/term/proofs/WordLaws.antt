@@ -1,7 +1,9 @@
 -- Laws of words: the parts of a word that was put together, and a word put together of its parts.
 use Prim.Native.Nat.{ℕ, _<_}
 use mathlib.Core.Path.{_≡_, ap}
+use mathlib.Core.List.{List}
 use native.Mathlib.Omega.{arith}
+use Rattle.lists.specs.Lists.{All}
 use Rattle.term.specs.Words.{word, tagOf, nOf, kOf, integerWord, tagInteger}
 
 -- the parts of a word of parts that fit
@@ -33,3 +35,7 @@ k-small w = omega arith
 -- the word of another tag is no integer's
 pub not-integer : (tag n k : ℕ) → n < 256 → k < 65536 → ¬ (tag ≡ tagInteger) → ¬ (word tag n k ≡ integerWord)
 not-integer tag n k h l no-integer e = no-integer (omega (arith, tag-word tag n k h l, ap tagOf e))
+
+-- every word has 32 bits
+abbrev pub Words32 : List ℕ → Type 0
+Words32 l = All (λ w. w < 4294967296) l
