@@ -21,7 +21,7 @@ use Rattle.term.specs.declared.shape.Reading.the-variants.{Ends, Fails}
 use Rattle.term.specs.Reading.{onward, Reads}
 use Rattle.term.specs.declared.binding.Gone.{Gone}
 use Rattle.term.specs.declared.binding.Gone.the-variants.{Past, Broke}
-use Rattle.term.specs.Walking.{Marks, Stands, Agrees, Keeps}
+use Rattle.term.specs.Walking.{Marks, Stands, Agrees, Keeps, variables, checkNumbers}
 use Rattle.term.proofs.RowLaws.{drop-head}
 use Rattle.term.proofs.TreeLaws.{words-one}
 use Rattle.term.proofs.ShapeLaws.{Words32, Shaped, shaped-control}
@@ -79,7 +79,7 @@ module _ (places : ℕ) (arities l : List ℕ) where
       unfolding onward shape wanted
       control-more more = bad-shape a (reading ∙ ap (onward places [] l []) e ∙ rw (drop-head l a more))
 
-      module _ (all : length l ≤ a) (known : (i : ℕ) → Fits w32 (getD l i 0)) (after : List Bool) (g : Gone) (k : Keeps l 0 1 (replicate 64 false) arities false (replicate 256 false) after g) where
+      module _ (all : length l ≤ a) (known : (i : ℕ) → Fits w32 (getD l i 0)) (after : List Bool) (g : Gone) (k : Keeps l 0 1 (replicate variables false) arities false (replicate checkNumbers false) after g) where
         shaped : controlShape places l ≡ none
         unfolding onward shape
         shaped = reading ∙ ap (onward places [] l []) e ∙ rw (drop-of-length-le l all)
@@ -99,8 +99,8 @@ module _ (places : ℕ) (arities l : List ℕ) where
               row = sym (append-nil (wordsOf (control .term then end)) ∙ words-one (control .term) ∙ control .same-words);
             }
 
-        agrees : Agrees (0 + length (wordsOf (control .term then end))) (λ scope checks. Marks 256 after checks) (keepsAll arities false [] (control .term then end) 0 []) g
-        agrees = k .answer (control .term then end) [] [] stands (no-marks 64) (no-marks 256)
+        agrees : Agrees (0 + length (wordsOf (control .term then end))) (λ scope checks. Marks checkNumbers after checks) (keepsAll arities false [] (control .term then end) 0 []) g
+        agrees = k .answer (control .term then end) [] [] stands (no-marks variables) (no-marks checkNumbers)
 
         same-rules : goodControl places arities l ≡ keepsRules arities (control .term)
         same-rules = good-shape shaped ∙ ap (keepsRules arities) (control .read-as)

@@ -19,7 +19,7 @@ use Rattle.term.specs.Module.{breaker}
 use Rattle.term.specs.declared.module.Checked.the-variants.{Good, Bad}
 use Rattle.term.specs.declared.binding.Gone.{Gone}
 use Rattle.term.specs.declared.binding.Gone.the-variants.{Past, Broke}
-use Rattle.term.specs.Walking.{Marks, Stands, Keeps}
+use Rattle.term.specs.Walking.{Marks, Stands, Keeps, variables, checkNumbers}
 use Rattle.term.specs.Checking.{badOf, KeepsFunctions}
 use Rattle.term.proofs.WordLaws.{tag-word, n-word}
 use Rattle.term.proofs.RowLaws.{drop-head}
@@ -88,15 +88,15 @@ record Left (l arities : List ℕ) (at : ℕ) (checks : List Bool) (ts : Terms) 
   numbers : List ℕ
   fit : FitAll 0 left (replicate many spotFunction)
   row : drop at l ≡ wordsOf left
-  marks : Marks 256 checks numbers
+  marks : Marks checkNumbers checks numbers
   same : functionsKeep arities ts 0 [] ≡ functionsKeep arities left at numbers
 
 pub record Going (l arities : List ℕ) (at : ℕ) (checks : List Bool) : Type 0 where
   to-come : (ts : Terms) (m : ℕ) → FitAll 0 ts (replicate m spotFunction) → wordsOf ts ≡ l → Left l arities at checks ts
 
-pub going-start : (l arities : List ℕ) → Going l arities 0 (replicate 256 false)
+pub going-start : (l arities : List ℕ) → Going l arities 0 (replicate checkNumbers false)
 going-start l arities =
-    record { to-come = λ ts m f e. record { left = ts; many = m; numbers = []; fit = f; row = sym e; marks = no-marks 256; same = refl } }
+    record { to-come = λ ts m f e. record { left = ts; many = m; numbers = []; fit = f; row = sym e; marks = no-marks checkNumbers; same = refl } }
 
 -- a function, then the others
 functions-step : (arities : List ℕ) (tag n k : ℕ) (us ts : Terms) (at : ℕ) (checks : List ℕ)
@@ -116,7 +116,7 @@ module _ (l arities : List ℕ) (at : ℕ) (checks : List Bool) (s : Going l ari
             sym (ap breaker (c .same ∙ ap (λ (us : Terms). functionsKeep arities us at (c .numbers)) z));
       }
 
-  module _ (lt : at < length l) (n : ℕ) (en : n ≡ nOf (getD l at 0)) (scope : List Bool) (m : Marks 64 scope (upTo n)) (after : List Bool) (g : Gone) (k : Keeps l (at + 1) 1 scope arities true checks after g) where
+  module _ (lt : at < length l) (n : ℕ) (en : n ≡ nOf (getD l at 0)) (scope : List Bool) (m : Marks variables scope (upTo n)) (after : List Bool) (g : Gone) (k : Keeps l (at + 1) 1 scope arities true checks after g) where
     walk : (ts : Terms) (c : Left l arities at checks ts) (f : FunctionHere l at (c .left))
         → functionsKeep arities ts 0 [] ≡ andThen (keepsAll arities true (upTo (f .n)) (f .children) (at + 1) (c .numbers)) (λ at′ scope′ checks′. functionsKeep arities (f .others) at′ checks′)
     walk ts c f = c .same ∙ ap (λ (us : Terms). functionsKeep arities us at (c .numbers)) (f .is) ∙ functions-step arities (f .tag) (f .n) (f .k) (f .children) (f .others) at (c .numbers)
@@ -128,7 +128,7 @@ module _ (l arities : List ℕ) (at : ℕ) (checks : List Bool) (s : Going l ari
           answer = λ ts j f q.
               let c = s .to-come ts j f q in
               let h = function-here l at (c .left) (c .many) (c .fit) (c .row) lt in
-              let mm : Marks 64 scope (upTo (h .n)) = rw (en ∙ h .n-is) at m in
+              let mm : Marks variables scope (upTo (h .n)) = rw (en ∙ h .n-is) at m in
               let w = agrees-broke _ _ _ g p (k .answer (h .children) (upTo (h .n)) (c .numbers) (h .stands) mm (c .marks)) e in
               sym (ap breaker (walk ts c h ∙ ap (λ (x : Walk). andThen x (λ at′ scope′ checks′. functionsKeep arities (h .others) at′ checks′)) w));
         }
@@ -140,7 +140,7 @@ module _ (l arities : List ℕ) (at : ℕ) (checks : List Bool) (s : Going l ari
           to-come = λ ts j f q.
               let c = s .to-come ts j f q in
               let h = function-here l at (c .left) (c .many) (c .fit) (c .row) lt in
-              let mm : Marks 64 scope (upTo (h .n)) = rw (en ∙ h .n-is) at m in
+              let mm : Marks variables scope (upTo (h .n)) = rw (en ∙ h .n-is) at m in
               let w = agrees-past _ _ _ g a (k .answer (h .children) (upTo (h .n)) (c .numbers) (h .stands) mm (c .marks)) e in
               record {
                 left = h .others;

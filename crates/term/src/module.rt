@@ -11,7 +11,7 @@ ghost use Prim.Native.Nat.{_≤_};
 ghost use lib.ListN.{length};
 ghost use Rattle.lists.specs.Lists.{upTo};
 ghost use Rattle.term.specs.Module.{checkModule};
-ghost use Rattle.term.specs.Walking.{Marks};
+ghost use Rattle.term.specs.Walking.{Marks, variables};
 ghost use Rattle.term.specs.Checking.{ReadFunctions, KeepsFunctions, badOf};
 
 // The most words that a module has.
@@ -31,7 +31,7 @@ pub enum Functions {
 
 // The scope of a function's parameters: variables 0, 1, .. below their count.
 fn parameters(count: usize) -> [bool; 64]
-    ensures { λ r. ⌜ Marks 64 r (upTo count) ⌝ }
+    ensures { λ r. ⌜ Marks variables r (upTo count) ⌝ }
 {
     let mut scope = [false; 64];
     let mut i = 0;
