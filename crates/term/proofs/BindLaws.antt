@@ -1,27 +1,27 @@
 -- What the code's walk over patterns returns, by the tests that it makes.
-use Prim.Native.Nat.{ℕ, zero, suc, _+_, _-_, _≤_, _<_}
+use Prim.Native.Nat.{ℕ, suc, _+_, _-_, _≤_, _<_}
 use mathlib.Core.Path.{_≡_, refl, sym, ap, _∙_}
 use mathlib.Core.Bool.{Bool, true, false}
-use mathlib.Core.List.{List, [], _∷_, _++_}
+use mathlib.Core.List.{List, _∷_}
 use native.Mathlib.Omega.{arith}
 use native.Mathlib.Nat.{add-zero}
 use native.Mathlib.Numerals.{add-one}
 use lib.Dec.{eqb}
-use lib.ListN.{length, getD, set, length-append}
+use lib.ListN.{length, getD, set}
 use Rattle.lists.specs.Lists.{member}
 use Rattle.lists.proofs.Tests.{eqb-of, eqb-apart}
 use Rattle.term.specs.Words.{tagOf, nOf, kOf, tagInteger, tagVariable}
 use Rattle.term.specs.Table.{arity, table, rowOf, childCount}
-use Rattle.term.specs.Tree.{Term, Terms, int, node, end, _then_, words, wordsOf, count}
+use Rattle.term.specs.Tree.{Terms, int, node, end, _then_, words, wordsOf, count}
 use Rattle.term.specs.Binding.{Walk, breaks, passes, andThen, binds, bindsAll}
 use Rattle.term.specs.Kinds.{ChildCount}
 use Rattle.term.specs.declared.binding.Gone.{Gone}
 use Rattle.term.specs.declared.binding.Gone.the-variants.{Past, Broke}
-use Rattle.term.specs.Walking.{Marks, Stands, Agrees, Onward, Binds}
+use Rattle.term.specs.Walking.{Marks, Stands, Agrees, Onward, Binds, variables}
 use Rattle.term.proofs.TreeLaws.{_andAll_, words-all, count-all}
 use Rattle.term.proofs.ShapeLaws.{fits-parts}
 use Rattle.term.proofs.MarkLaws.{mark-more, variable-k}
-use Rattle.term.proofs.StandLaws.{IntegerHere, NodeHere, stands-within, stands-none, stands-second, stands-integer, stands-node}
+use Rattle.term.proofs.StandLaws.{NodeHere, stands-within, stands-none, stands-second, stands-integer, stands-node}
 
 -- what comes after two walks comes after the second of them
 pub then-then : (w : Walk) (f g h : ℕ → List ℕ → List ℕ → Walk) → ((at : ℕ) (scope checks : List ℕ) → f at scope checks ≡ andThen (g at scope checks) h) → andThen w f ≡ andThen (andThen w g) h
@@ -158,8 +158,8 @@ module _ (l : List ℕ) (at owed : ℕ) (marks : List Bool) where
         pub bind-integer : t ≡ tagInteger → (after : List Bool) (r : Gone) → Binds l (at + 2) (owed - 1) marks after r → Binds l at owed marks after r
         bind-integer e after r b = record { answer = go; onward = onward-from at (at + 2) r (omega arith) (b .onward) }
           where
-            go : (ts : Terms) (scope checks : List ℕ) → Stands l at owed ts → Marks 64 marks scope
-                → Agrees (at + length (wordsOf ts)) (λ scope′ checks′. Marks 64 after scope′ × (checks′ ≡ checks)) (bindsAll scope ts at checks) r
+            go : (ts : Terms) (scope checks : List ℕ) → Stands l at owed ts → Marks variables marks scope
+                → Agrees (at + length (wordsOf ts)) (λ scope′ checks′. Marks variables after scope′ × (checks′ ≡ checks)) (bindsAll scope ts at checks) r
             go ts scope checks s m =
                 let h = stands-integer l at owed ts ne (sym et ∙ e) s in
                 agrees-with _ _ _ _ _ r (integer-stop at ts (h .payload) (h .others) (h .is)) (ap (λ (us : Terms). bindsAll scope us at checks) (h .is) ∙ binds-integer (h .payload) (h .others) scope at checks)
@@ -169,8 +169,8 @@ module _ (l : List ℕ) (at owed : ℕ) (marks : List Bool) where
           pub bind-node : ¬ (t ≡ tagVariable) → (c : ℕ) → ChildCount (getD l at 0) c → (after : List Bool) (r : Gone) → Binds l (at + 1) (owed - 1 + c) marks after r → Binds l at owed marks after r
           bind-node v c hc after r b = record { answer = go; onward = onward-from at (at + 1) r (omega arith) (b .onward) }
             where
-              go : (ts : Terms) (scope checks : List ℕ) → Stands l at owed ts → Marks 64 marks scope
-                  → Agrees (at + length (wordsOf ts)) (λ scope′ checks′. Marks 64 after scope′ × (checks′ ≡ checks)) (bindsAll scope ts at checks) r
+              go : (ts : Terms) (scope checks : List ℕ) → Stands l at owed ts → Marks variables marks scope
+                  → Agrees (at + length (wordsOf ts)) (λ scope′ checks′. Marks variables after scope′ × (checks′ ≡ checks)) (bindsAll scope ts at checks) r
               go ts scope checks s m =
                   let h = stands-node l at owed ts ne (λ i. d (et ∙ i)) s in
                   agrees-with _ _ _ _ _ r (node-stop l at owed ts h)
@@ -178,7 +178,7 @@ module _ (l : List ℕ) (at owed : ℕ) (marks : List Bool) where
                   (b .answer (h .children andAll h .others) scope checks (node-next l at owed c ts ne hc h) m)
 
           module _ (v : t ≡ tagVariable) (k : ℕ) (ek : k ≡ kOf (getD l at 0)) where
-            pub bind-out : 64 ≤ k → Binds l at owed marks marks (Broke at)
+            pub bind-out : variables ≤ k → Binds l at owed marks marks (Broke at)
             unfolding Onward
             bind-out b =
                 record {
@@ -188,7 +188,7 @@ module _ (l : List ℕ) (at owed : ℕ) (marks : List Bool) where
                   onward = tt;
                 }
 
-            pub bind-again : k < 64 → getD marks k false ≡ true → Binds l at owed marks marks (Broke at)
+            pub bind-again : k < variables → getD marks k false ≡ true → Binds l at owed marks marks (Broke at)
             unfolding Onward Agrees
             bind-again b e =
                 record {
@@ -202,11 +202,11 @@ module _ (l : List ℕ) (at owed : ℕ) (marks : List Bool) where
                   onward = tt;
                 }
 
-            pub bind-new : k < 64 → getD marks k false ≡ false → (after : List Bool) (r : Gone) → Binds l (at + 1) (owed - 1) (set marks k true) after r → Binds l at owed marks after r
+            pub bind-new : k < variables → getD marks k false ≡ false → (after : List Bool) (r : Gone) → Binds l (at + 1) (owed - 1) (set marks k true) after r → Binds l at owed marks after r
             bind-new j e after r b = record { answer = go; onward = onward-from at (at + 1) r (omega arith) (b .onward) }
               where
-                go : (ts : Terms) (scope checks : List ℕ) → Stands l at owed ts → Marks 64 marks scope
-                    → Agrees (at + length (wordsOf ts)) (λ scope′ checks′. Marks 64 after scope′ × (checks′ ≡ checks)) (bindsAll scope ts at checks) r
+                go : (ts : Terms) (scope checks : List ℕ) → Stands l at owed ts → Marks variables marks scope
+                    → Agrees (at + length (wordsOf ts)) (λ scope′ checks′. Marks variables after scope′ × (checks′ ≡ checks)) (bindsAll scope ts at checks) r
                 go ts scope checks s m =
                     let h = stands-node l at owed ts ne (λ i. d (et ∙ i)) s in
                     let kk : k ≡ h .k = ek ∙ h .k-is in
@@ -214,4 +214,4 @@ module _ (l : List ℕ) (at owed : ℕ) (marks : List Bool) where
                     agrees-with _ _ _ _ _ r (node-stop l at owed ts h ∙ leaf-stop at (h .children) (h .others) leaf)
                     (ap (λ (us : Terms). bindsAll scope us at checks) (h .is)
                     ∙ binds-new (h .tag) (h .n) (h .k) (h .children) (h .others) scope at checks (sym (h .tag-is) ∙ sym et ∙ v) (ap (λ (i : ℕ). member i scope) (sym kk) ∙ sym (m .told k j) ∙ e))
-                    (rw kk at (b .answer (h .others) (k ∷ scope) checks (leaf-next l at owed ts h leaf) (mark-more 64 marks scope k j m)))
+                    (rw kk at (b .answer (h .others) (k ∷ scope) checks (leaf-next l at owed ts h leaf) (mark-more variables marks scope k j m)))

@@ -1,35 +1,33 @@
 -- What the code's module check returns, by the tests that it makes.
-use Prim.Native.Nat.{ℕ, zero, suc, _+_, _≤_, _<_}
+use Prim.Native.Nat.{ℕ, zero, suc, _≤_, _<_}
 use mathlib.Core.Path.{_≡_, refl, sym, ap, _∙_}
 use mathlib.Core.Bool.{Bool, true, false}
 use mathlib.Core.Option.{Option, none, some}
 use mathlib.Core.List.{List, [], _∷_}
 use native.Mathlib.Omega.{arith}
-use lib.Dec.{eqb, ltb}
+use lib.Dec.{ltb}
 use lib.ListN.{length, getD, take, replicate}
-use mir.Val.{Fits}
-use mir.Syntax.{w32}
 use Rattle.lists.proofs.Tests.{ltb-of, ltb-over, eqb-of, eqb-apart}
 use Rattle.term.specs.Table.{spotFunction}
-use Rattle.term.specs.Tree.{Term, Terms, end, _then_, wordsOf}
+use Rattle.term.specs.Tree.{Terms, end, _then_}
 use Rattle.term.specs.Read.{termsOf}
 use Rattle.term.specs.Shape.{moduleShape}
 use Rattle.term.specs.Fit.{FitAll}
 use Rattle.term.specs.Binding.{breaks, functionsKeep}
-use Rattle.term.specs.Module.{longestModule, parametersOf, aritiesOf, rulesFrom, breaker, firstBreaker, checkModule}
+use Rattle.term.specs.Module.{longestModule, aritiesOf, rulesFrom, breaker, firstBreaker, checkModule}
 use Rattle.term.specs.Control.{moduleArities}
 use Rattle.term.specs.declared.module.Checked.{Checked}
-use Rattle.term.specs.declared.module.Checked.the-variants.{Good, Bad}
+use Rattle.term.specs.declared.module.Checked.the-variants.{Bad}
 use Rattle.term.specs.declared.module.Functions.{Functions}
 use Rattle.term.specs.declared.module.Functions.the-variants.{Count, Fails}
 use Rattle.term.specs.Checking.{badOf, failOf, ReadFunctions, KeepsFunctions}
 use Rattle.term.proofs.ShapeLaws.{Functions as ShapedFunctions, shaped-module}
 
 -- the check, by the two tests that are made there
-answer : Bool → Option ℕ → Option ℕ → Option ℕ
+unfoldable pub answer : Bool → Option ℕ → Option ℕ → Option ℕ
 answer long shape rest = elim long [ true ↦ some longestModule | false ↦ elim shape [ some at ↦ some at | none ↦ rest ] ]
 
-check-is : (l : List ℕ) → checkModule l ≡ answer (ltb longestModule (length l)) (moduleShape l) (firstBreaker (termsOf l))
+pub check-is : (l : List ℕ) → checkModule l ≡ answer (ltb longestModule (length l)) (moduleShape l) (firstBreaker (termsOf l))
 unfolding checkModule answer
 check-is l = refl
 
@@ -64,7 +62,7 @@ module _ (l counts : List ℕ) (r : Functions) (short : length l ≤ longestModu
       let s : moduleShape l ≡ some p = sym (h .answer) ∙ ap failOf e in
       sym (check-is l ∙ rw (ltb-over longestModule (length l) short, s))
 
-  module _ (m : ℕ) (e : r ≡ Count m) (known : (i : ℕ) → Fits w32 (getD l i 0)) where
+  module _ (m : ℕ) (e : r ≡ Count m) where
     passed : moduleShape l ≡ none
     unfolding failOf
     passed = sym (h .answer) ∙ ap failOf e

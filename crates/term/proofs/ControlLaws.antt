@@ -1,19 +1,16 @@
 -- What the code's control check returns, by the tests that it makes.
-use Prim.Native.Nat.{ℕ, zero, suc, _+_, _≤_, _<_}
+use Prim.Native.Nat.{ℕ, suc, _+_, _≤_, _<_}
 use mathlib.Core.Path.{_≡_, refl, sym, ap, _∙_}
 use mathlib.Core.Bool.{Bool, true, false}
-use mathlib.Core.Option.{Option, none, some}
-use mathlib.Core.List.{List, [], _∷_, _++_, append-nil}
-use native.Mathlib.Omega.{arith}
-use lib.ListN.{length, getD, drop, replicate, length-replicate, getD-replicate, drop-of-length-le}
-use mir.Val.{Fits}
-use mir.Syntax.{w32}
+use mathlib.Core.Option.{none, some}
+use mathlib.Core.List.{List, [], _∷_, append-nil}
+use lib.ListN.{length, getD, replicate, length-replicate, getD-replicate, drop-of-length-le}
 use Rattle.lists.specs.Lists.{member, All}
 use Rattle.term.specs.Table.{spotExpression}
-use Rattle.term.specs.Tree.{Term, Terms, _then_, end, words, wordsOf, count}
+use Rattle.term.specs.Tree.{Term, _then_, end, wordsOf, count}
 use Rattle.term.specs.Read.{termOf}
 use Rattle.term.specs.Shape.{shape, wanted, controlShape}
-use Rattle.term.specs.Fit.{Fit, FitAll}
+use Rattle.term.specs.Fit.{FitAll}
 use Rattle.term.specs.Binding.{Walk, breaks, passes, andThen, keeps, keepsAll}
 use Rattle.term.specs.Module.{breaker}
 use Rattle.term.specs.Control.{keepsRules, goodControl}
@@ -22,7 +19,7 @@ use Rattle.term.specs.declared.shape.Reading.the-variants.{Ends, Fails}
 use Rattle.term.specs.Reading.{onward, Reads}
 use Rattle.term.specs.declared.binding.Gone.{Gone}
 use Rattle.term.specs.declared.binding.Gone.the-variants.{Past, Broke}
-use Rattle.term.specs.Walking.{Marks, Stands, Agrees, Keeps}
+use Rattle.term.specs.Walking.{Marks, Stands, Agrees, Keeps, variables, checkNumbers}
 use Rattle.term.proofs.RowLaws.{drop-head}
 use Rattle.term.proofs.TreeLaws.{words-one}
 use Rattle.term.proofs.ShapeLaws.{Shaped, shaped-control}
@@ -74,7 +71,7 @@ module _ (places : ℕ) (arities l : List ℕ) where
       unfolding onward shape wanted
       control-more more = bad-shape a (reading ∙ ap (onward places [] l []) e ∙ rw (drop-head l a more))
 
-      module _ (all : length l ≤ a) (known : (i : ℕ) → Fits w32 (getD l i 0)) (after : List Bool) (g : Gone) (k : Keeps l 0 1 (replicate 64 false) arities false (replicate 256 false) after g) where
+      module _ (all : length l ≤ a) (after : List Bool) (g : Gone) (k : Keeps l 0 1 (replicate variables false) arities false (replicate checkNumbers false) after g) where
         shaped : controlShape places l ≡ none
         unfolding onward shape
         shaped = reading ∙ ap (onward places [] l []) e ∙ rw (drop-of-length-le l all)
@@ -94,8 +91,8 @@ module _ (places : ℕ) (arities l : List ℕ) where
               row = sym (append-nil (wordsOf (control .term then end)) ∙ words-one (control .term) ∙ control .same-words);
             }
 
-        agrees : Agrees (0 + length (wordsOf (control .term then end))) (λ scope checks. Marks 256 after checks) (keepsAll arities false [] (control .term then end) 0 []) g
-        agrees = k .answer (control .term then end) [] [] stands (no-marks 64) (no-marks 256)
+        agrees : Agrees (0 + length (wordsOf (control .term then end))) (λ scope checks. Marks checkNumbers after checks) (keepsAll arities false [] (control .term then end) 0 []) g
+        agrees = k .answer (control .term then end) [] [] stands (no-marks variables) (no-marks checkNumbers)
 
         same-rules : goodControl places arities l ≡ keepsRules arities (control .term)
         same-rules = good-shape shaped ∙ ap (keepsRules arities) (control .read-as)

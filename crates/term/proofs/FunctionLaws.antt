@@ -1,39 +1,33 @@
 -- The functions of a module, read one after another for shape with their parameter counts noted, then gone through for the rules.
-use Prim.Native.Nat.{ℕ, zero, suc, _+_, _-_, _≤_, _<_}
-use mathlib.Core.Path.{_≡_, refl, sym, ap, _∙_, subst}
-use mathlib.Core.Bool.{Bool, true, false}
-use mathlib.Core.Option.{Option, none, some}
-use mathlib.Core.List.{List, [], _∷_, _++_, append-nil, append-assoc}
+use Prim.Native.Nat.{ℕ, zero, suc, _+_, _≤_, _<_}
+use mathlib.Core.Path.{_≡_, refl, sym, ap, _∙_}
+use mathlib.Core.Bool.{false}
+use mathlib.Core.Option.{none, some}
+use mathlib.Core.List.{List, [], _∷_, _++_}
 use native.Mathlib.Omega.{arith}
 use native.Mathlib.Numerals.{add-one}
-use lib.Dec.{eqb, leb, ltb}
-use lib.ListN.{length, getD, set, take, drop, replicate, length-append, length-set, drop-of-length-le}
+use lib.ListN.{length, getD, set, take, drop, replicate, drop-of-length-le}
 use lib.Seq.{take-suc-set, drop-append-seam}
-use mir.Val.{Fits}
-use mir.Syntax.{w32}
-use Rattle.lists.specs.Lists.{member, upTo}
-use Rattle.lists.proofs.Tests.{true-not-false, none-not-some, some-injective}
-use Rattle.term.specs.Words.{word, tagOf, nOf, integerWord, tagInteger}
-use Rattle.term.specs.Table.{table, rowOf, tagsAt, kLimit, fits, spotFunction}
+use Rattle.lists.specs.Lists.{member}
+use Rattle.lists.proofs.Tests.{true-not-false, some-injective}
+use Rattle.term.specs.Words.{word, nOf}
+use Rattle.term.specs.Table.{tagsAt, fits, spotFunction}
 use Rattle.term.specs.Tree.{Term, Terms, int, node, end, _then_, words, wordsOf, count}
-use Rattle.term.specs.Read.{termsOf}
 use Rattle.term.specs.Shape.{shape, wanted, moduleShape}
 use Rattle.term.specs.Fit.{Fit, FitAll}
 use Rattle.term.specs.Module.{parametersOf, aritiesOf}
 use Rattle.term.specs.Control.{moduleArities}
 use Rattle.term.specs.declared.shape.Reading.{Reading}
 use Rattle.term.specs.declared.shape.Reading.the-variants.{Ends, Fails}
-use Rattle.term.specs.declared.module.Functions.{Functions}
 use Rattle.term.specs.declared.module.Functions.the-variants.{Count, Fails as NoFunctions}
 use Rattle.term.specs.Reading.{onward, Reads}
-use Rattle.term.specs.Walking.{Stands}
 use Rattle.term.specs.Checking.{failOf, ReadFunctions}
 use Rattle.term.proofs.WordLaws.{n-word}
 use Rattle.term.proofs.RowLaws.{drop-head}
-use Rattle.term.proofs.TreeLaws.{_andAll_, words-all, count-all, all-end}
-use Rattle.term.proofs.ShapeLaws.{shape-terms, shape-misfit, shape-begins, Functions as ShapedFunctions, shaped-module}
+use Rattle.term.proofs.TreeLaws.{length-all, _andAll_, words-all, count-all, all-end}
+use Rattle.term.proofs.ShapeLaws.{shape-terms, shape-misfit, Functions as ShapedFunctions, shaped-module}
 use Rattle.term.proofs.ReadingLaws.{further-ends}
-use Rattle.term.proofs.StandLaws.{Here, here, count-within}
+use Rattle.term.proofs.StandLaws.{here, count-within}
 
 -- a spot that no word fits shows where reading has come to
 abbrev noSpot : ℕ
@@ -110,9 +104,6 @@ left-row l counts at number ts e c =
     let d : l ≡ wordsOf (c .done) ++ wordsOf (c .left) = sym e ∙ ap wordsOf (c .is) ∙ words-all (c .done) (c .left) in
     ap (λ (j : ℕ). drop j l) (c .at-is) ∙ ap (drop (length (wordsOf (c .done)))) d ∙ drop-append-seam (wordsOf (c .done)) (wordsOf (c .left))
 
-length-all : (ts us : Terms) → length (wordsOf (ts andAll us)) ≡ length (wordsOf ts) + length (wordsOf us)
-length-all ts us = ap length (words-all ts us) ∙ length-append (wordsOf ts) (wordsOf us)
-
 pub no-words : (ts : Terms) → length (wordsOf ts) ≡ 0 → ts ≡ end
 unfolding count
 no-words end e = refl
@@ -167,9 +158,9 @@ module _ (l counts : List ℕ) (at number : ℕ) (s : SoFar l counts at number) 
         let e : c .left ≡ end = no-words (c .left) (ap length (sym (left-row l counts at number (f .terms) (f .same-words) c) ∙ drop-of-length-le l h)) in
         c .noted ∙ ap aritiesOf (sym (c .is ∙ ap (λ (us : Terms). c .done andAll us) e ∙ all-end (c .done))) ∙ ap aritiesOf (sym (f .read-as))
 
-    pub so-far-done : ((i : ℕ) → Fits w32 (getD l i 0)) → number ≤ length counts → ReadFunctions l counts (Count number)
+    pub so-far-done : number ≤ length counts → ReadFunctions l counts (Count number)
     unfolding failOf
-    so-far-done known few =
+    so-far-done few =
         record {
           answer = sym passed;
           counted = λ m e. let i : number ≡ m = cc in (rw i at (all-noted (shaped-module l passed)), omega arith);

@@ -18,3 +18,5 @@ pub mod ModuleLaws
 pub mod FunctionLaws
 pub mod RuleLaws
 pub mod CheckLaws
+pub mod PlaceLaws
+pub mod GoodLaws

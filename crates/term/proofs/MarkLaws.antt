@@ -1,20 +1,19 @@
 -- Marks for numbers: what one more mark says, and the rule for one word by the tests of the code.
-use Prim.Native.Nat.{ℕ, zero, suc, _+_, _-_, _≤_, _<_}
-use mathlib.Core.Path.{_≡_, refl, sym, ap, _∙_}
-use mathlib.Core.Bool.{Bool, true, false, cond, not, _&&_, _||_}
-use mathlib.Core.Option.{Option, none, some}
-use mathlib.Core.List.{List, [], _∷_, _++_}
+use Prim.Native.Nat.{ℕ, zero, suc, _≤_, _<_}
+use mathlib.Core.Path.{_≡_, refl, sym, _∙_}
+use mathlib.Core.Bool.{Bool, true, false, not, _&&_, _||_}
+use mathlib.Core.List.{List, [], _∷_}
 use native.Mathlib.Omega.{arith}
 use native.Mathlib.Decide.{ℕ-discrete}
 use lib.Dec.{eqb}
-use lib.ListN.{length, getD, set, getElem?, length-set}
+use lib.ListN.{length, getD, set, length-set}
 use lib.Seq.{getD-set-same, getD-set-other}
-use Rattle.lists.specs.Lists.{member, upTo}
-use Rattle.lists.proofs.Tests.{eqb-of, eqb-same, eqb-apart, not-true, not-false, cond-true, cond-false}
+use Rattle.lists.specs.Lists.{member}
+use Rattle.lists.proofs.Tests.{eqb-of, eqb-same, eqb-apart, not-true, not-false}
 use Rattle.term.specs.Words.{tagOf, nOf, kOf, tagVariable, tagApply, tagSpawn, tagLet, tagCheck}
 use Rattle.term.specs.Table.{table, rowOf, kLimit, fits}
 use Rattle.term.specs.Binding.{names, keepsRule, checksAfter}
-use Rattle.term.specs.Walking.{Marks, Rules}
+use Rattle.term.specs.Walking.{Marks, Rules, variables, checkNumbers}
 use Rattle.term.proofs.ShapeLaws.{fits-parts}
 
 -- one more mark
@@ -35,18 +34,18 @@ mark-out size marks numbers v h m =
 
 -- a check's number is met
 module _ (marks : List Bool) (w t : ℕ) (et : t ≡ tagOf w) where
-  pub meet-none : ¬ (t ≡ tagCheck) → (numbers : List ℕ) → Marks 256 marks numbers → Marks 256 marks (checksAfter (tagOf w) (kOf w) numbers)
+  pub meet-none : ¬ (t ≡ tagCheck) → (numbers : List ℕ) → Marks checkNumbers marks numbers → Marks checkNumbers marks (checksAfter (tagOf w) (kOf w) numbers)
   unfolding checksAfter
   meet-none d numbers m = rw (← et, eqb-apart t tagCheck d) m
 
   module _ (e : t ≡ tagCheck) (v : ℕ) (ev : v ≡ kOf w) where
-    pub meet-one : v < 256 → (numbers : List ℕ) → Marks 256 marks numbers → Marks 256 (set marks v true) (checksAfter (tagOf w) (kOf w) numbers)
+    pub meet-one : v < checkNumbers → (numbers : List ℕ) → Marks checkNumbers marks numbers → Marks checkNumbers (set marks v true) (checksAfter (tagOf w) (kOf w) numbers)
     unfolding checksAfter
-    meet-one h numbers m = rw (← et, eqb-of t tagCheck e, ← ev) (mark-more 256 marks numbers v h m)
+    meet-one h numbers m = rw (← et, eqb-of t tagCheck e, ← ev) (mark-more checkNumbers marks numbers v h m)
 
-    pub meet-out : 256 ≤ v → (numbers : List ℕ) → Marks 256 marks numbers → Marks 256 marks (checksAfter (tagOf w) (kOf w) numbers)
+    pub meet-out : checkNumbers ≤ v → (numbers : List ℕ) → Marks checkNumbers marks numbers → Marks checkNumbers marks (checksAfter (tagOf w) (kOf w) numbers)
     unfolding checksAfter
-    meet-out h numbers m = rw (← et, eqb-of t tagCheck e, ← ev) (mark-out 256 marks numbers v h m)
+    meet-out h numbers m = rw (← et, eqb-of t tagCheck e, ← ev) (mark-out checkNumbers marks numbers v h m)
 
 -- the function of a number
 pub no-function : (arities : List ℕ) (k n : ℕ) → length arities ≤ k → false ≡ names arities k n
@@ -88,15 +87,15 @@ module _ (arities : List ℕ) (unique : Bool) (scope checks : List ℕ) (tag n k
   rule-other a b c d e = rw (eqb-apart tag tagVariable d, eqb-apart tag tagApply a, eqb-apart tag tagSpawn b, eqb-apart tag tagLet e, eqb-apart tag tagCheck c)
 
 -- how large k is where the word fits
-pub variable-k : (places spot w : ℕ) → fits places spot w ≡ true → tagOf w ≡ tagVariable → kOf w < 64
+pub variable-k : (places spot w : ℕ) → fits places spot w ≡ true → tagOf w ≡ tagVariable → kOf w < variables
 unfolding kLimit rowOf table
 variable-k places spot w f e = rw e at (fits-parts places spot w f .k-below)
 
-pub let-k : (places spot w : ℕ) → fits places spot w ≡ true → tagOf w ≡ tagLet → kOf w < 64
+pub let-k : (places spot w : ℕ) → fits places spot w ≡ true → tagOf w ≡ tagLet → kOf w < variables
 unfolding kLimit rowOf table
 let-k places spot w f e = rw e at (fits-parts places spot w f .k-below)
 
-pub check-k : (places spot w : ℕ) → fits places spot w ≡ true → tagOf w ≡ tagCheck → kOf w < 256
+pub check-k : (places spot w : ℕ) → fits places spot w ≡ true → tagOf w ≡ tagCheck → kOf w < checkNumbers
 unfolding kLimit rowOf table
 check-k places spot w f e = rw e at (fits-parts places spot w f .k-below)
 
@@ -109,28 +108,28 @@ module _ (w : ℕ) (marks : List Bool) (arities : List ℕ) (unique : Bool) (met
   rules-spawn e m em r er = record { answer = λ places spot scope checks f h g. er ∙ rw (ev, em) (sym (rule-spawn arities unique scope checks (tagOf w) (nOf w) (kOf w) (sym et ∙ e))) }
 
   module _ (e : t ≡ tagCheck) where
-    pub check-out : 256 ≤ v → Rules w marks arities unique met false
+    pub check-out : checkNumbers ≤ v → Rules w marks arities unique met false
     check-out b = record { answer = λ places spot scope checks f h g. absurd (omega (arith, check-k places spot w f (sym et ∙ e))) }
 
     pub check-free : not unique ≡ true → Rules w marks arities unique met true
     check-free u = record { answer = λ places spot scope checks f h g. sym (rule-check arities unique scope checks (tagOf w) (nOf w) (kOf w) (sym et ∙ e) ∙ rw (not-true unique u)) }
 
-    pub check-new : v < 256 → not unique ≡ false → Rules w marks arities unique met (not (getD met v false))
+    pub check-new : v < checkNumbers → not unique ≡ false → Rules w marks arities unique met (not (getD met v false))
     check-new b u =
         record { answer = λ places spot scope checks f h g. sym (rule-check arities unique scope checks (tagOf w) (nOf w) (kOf w) (sym et ∙ e) ∙ rw (not-false unique u, ← ev, g .told v b)) }
 
   module _ (e : t ≡ tagVariable) where
-    pub variable-out : 64 ≤ v → Rules w marks arities unique met false
+    pub variable-out : variables ≤ v → Rules w marks arities unique met false
     variable-out b = record { answer = λ places spot scope checks f h g. absurd (omega (arith, variable-k places spot w f (sym et ∙ e))) }
 
-    pub variable-in : v < 64 → Rules w marks arities unique met (getD marks v false)
+    pub variable-in : v < variables → Rules w marks arities unique met (getD marks v false)
     variable-in b = record { answer = λ places spot scope checks f h g. h .told v b ∙ sym (rule-variable arities unique scope checks (tagOf w) (nOf w) (kOf w) (sym et ∙ e) ∙ rw (← ev)) }
 
   module _ (e : t ≡ tagLet) where
-    pub let-out : 64 ≤ v → Rules w marks arities unique met false
+    pub let-out : variables ≤ v → Rules w marks arities unique met false
     let-out b = record { answer = λ places spot scope checks f h g. absurd (omega (arith, let-k places spot w f (sym et ∙ e))) }
 
-    pub let-in : v < 64 → Rules w marks arities unique met (not (getD marks v false))
+    pub let-in : v < variables → Rules w marks arities unique met (not (getD marks v false))
     let-in b = record { answer = λ places spot scope checks f h g. sym (rule-let arities unique scope checks (tagOf w) (nOf w) (kOf w) (sym et ∙ e) ∙ rw (← ev, h .told v b)) }
 
   pub rules-other : ¬ (t ≡ tagApply) → ¬ (t ≡ tagSpawn) → ¬ (t ≡ tagCheck) → ¬ (t ≡ tagVariable) → ¬ (t ≡ tagLet) → Rules w marks arities unique met true

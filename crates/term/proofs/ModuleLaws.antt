@@ -1,17 +1,16 @@
 -- What the code's module check returns, by the tests that it makes.
-use Prim.Native.Nat.{ℕ, zero, suc, _+_, _-_, _≤_, _<_}
-use mathlib.Core.Path.{_≡_, refl, sym, ap, _∙_, subst}
+use Prim.Native.Nat.{ℕ, zero, suc, _+_, _≤_, _<_}
+use mathlib.Core.Path.{_≡_, refl, sym, ap, _∙_}
 use mathlib.Core.Bool.{Bool, true, false, _||_}
-use mathlib.Core.Option.{Option, none, some}
-use mathlib.Core.List.{List, [], _∷_, _++_, append-nil, append-assoc}
+use mathlib.Core.List.{List, [], _∷_, _++_}
 use native.Mathlib.Omega.{arith}
 use native.Mathlib.Numerals.{add-one}
 use native.Mathlib.Decide.{ℕ-discrete}
 use lib.Dec.{eqb}
-use lib.ListN.{length, getD, set, take, drop, replicate, length-append, length-drop, drop-of-length-le}
+use lib.ListN.{set}
 use Rattle.lists.specs.Lists.{member, upTo}
 use Rattle.lists.proofs.Tests.{eqb-of, or-right}
-use Rattle.term.specs.Walking.{Marks}
+use Rattle.term.specs.Walking.{Marks, variables}
 use Rattle.term.proofs.MarkLaws.{mark-more}
 
 -- numbers after one are those before it
@@ -43,15 +42,15 @@ member-below (suc n) k h = member-last k n (upTo n) ∙ go (λ b. member-below n
     go before (no d) = later-member k n (upTo n) (before (omega arith))
 
 -- one more parameter in scope
-pub marks-next : (marks : List Bool) (i : ℕ) → i < 64 → Marks 64 marks (upTo i) → Marks 64 (set marks i true) (upTo (i + 1))
+pub marks-next : (marks : List Bool) (i : ℕ) → i < variables → Marks variables marks (upTo i) → Marks variables (set marks i true) (upTo (i + 1))
 unfolding upTo
 marks-next marks i h m =
-    let g = mark-more 64 marks (upTo i) i h m in
+    let g = mark-more variables marks (upTo i) i h m in
     rw add-one (record { long = g .long; told = λ k b. g .told k b ∙ sym (member-last k i (upTo i)) })
 
 -- all that have a place are in scope
-pub marks-full : (marks : List Bool) (i n : ℕ) → 64 ≤ i → i < n → Marks 64 marks (upTo i) → Marks 64 marks (upTo n)
+pub marks-full : (marks : List Bool) (i n : ℕ) → variables ≤ i → i < n → Marks variables marks (upTo i) → Marks variables marks (upTo n)
 marks-full marks i n h g m = record { long = m .long; told = λ k b. m .told k b ∙ member-below i k (omega arith) ∙ sym (member-below n k (omega arith)) }
 
-pub marks-all : (marks : List Bool) (i n : ℕ) → i ≤ n → n ≤ i → Marks 64 marks (upTo i) → Marks 64 marks (upTo n)
+pub marks-all : (marks : List Bool) (i n : ℕ) → i ≤ n → n ≤ i → Marks variables marks (upTo i) → Marks variables marks (upTo n)
 marks-all marks i n h g m = let e : i ≡ n = omega arith in rw e at m

@@ -7,12 +7,12 @@ use native.Mathlib.Omega.{arith}
 use native.Mathlib.Nat.{zero-add, suc-add}
 use native.Mathlib.Decide.{ℕ-discrete}
 use Rattle.lists.proofs.Tests.{eqb-apart}
-use Rattle.term.specs.Words.{word, tagOf, nOf, integerWord}
+use Rattle.term.specs.Words.{tagInteger, word, tagOf, nOf, integerWord}
 use Rattle.term.specs.Table.{arity}
 use Rattle.term.specs.Tree.{Term, Terms, int, node, end, _then_, words, wordsOf, count, first, rest, Head, Whole, WholeAll}
 use Rattle.term.specs.Read.{before, under, read, readPayload, termsOf, theTerm, termOf}
-use Rattle.term.proofs.WordLaws.{tag-word, n-word, k-word, word-parts, not-integer}
-use Rattle.term.proofs.TreeLaws.{_andAll_, first-all, rest-all, words-one, words-split, count-first, first-and-rest, count-all}
+use Rattle.term.proofs.WordLaws.{n-small, k-small, tag-word, n-word, k-word, word-parts, not-integer}
+use Rattle.term.proofs.TreeLaws.{whole-first, whole-rest, _andAll_, first-all, rest-all, words-one, words-split, count-first, first-and-rest, count-all}
 
 -- all of some terms before those that were read
 unfoldable pub allBefore : Terms → Option Terms → Option Terms
@@ -78,17 +78,34 @@ pub term-of-words : (t : Term) → Whole t → termOf (words t) ≡ t
 unfolding termOf theTerm WholeAll
 term-of-words t h = ap (λ (l : List ℕ). theTerm (termsOf l)) (sym (words-one t)) ∙ ap theTerm (terms-of-words (t then end) (h, tt))
 
--- what was read: its words are those that were read, and it is at least as many terms as were owed
+-- no node has an integer's tag: of all that can be read, only a word of that tag with an n or a k of its own gives one that has
+unfoldable mutual
+  pub Plain : Term → Type 0
+  Plain (int x) = Unit {0}
+  Plain (node tag n k ts) = (¬ (tag ≡ tagInteger)) × PlainAll ts
+
+  pub PlainAll : Terms → Type 0
+  PlainAll end = Unit {0}
+  PlainAll (t then ts) = Plain t × PlainAll ts
+
+plain-join : (n : ℕ) (ts : Terms) → PlainAll (first n ts) → PlainAll (rest n ts) → PlainAll ts
+unfolding PlainAll first rest
+plain-join zero ts h g = g
+plain-join (suc n) end h g = tt
+plain-join (suc n) (t then ts) h g = (h .0, plain-join n ts (h .1) g)
+
+-- what was read: its words are those that were read, it is at least as many terms as were owed, and it is whole if it is plain
 pub record Reads (l : List ℕ) (owed : ℕ) (ts : Terms) : Type 0 where
   pub same-words : wordsOf ts ≡ l
   pub enough : owed ≤ count ts
+  pub whole : PlainAll ts → WholeAll ts
 
 abbrev Sound : List ℕ → ℕ → Option Terms → Type 0
 Sound l owed none = Unit {0}
 Sound l owed (some ts) = Reads l owed ts
 
 under-sound : (w : ℕ) (l : List ℕ) (owed : ℕ) (o : Option Terms) → Sound l (arity (tagOf w) (nOf w) + pred owed) o → Sound (w ∷ l) owed (under w o)
-unfolding under wordsOf words count
+unfolding under wordsOf words count PlainAll WholeAll
 under-sound w l owed none s = tt
 under-sound w l owed (some ts) s =
     let a = arity (tagOf w) (nOf w) in
@@ -96,12 +113,20 @@ under-sound w l owed (some ts) s =
     record {
       same-words = cc (word-parts w, s .same-words, words-split a ts);
       enough = omega (arith, count-all (first a ts) (rest a ts), ap count (first-and-rest a ts), s .enough);
+      whole = λ p.
+          let all = s .whole (plain-join a ts (p .0 .1) (p .1)) in
+          ((record { n-fits = n-small w; k-fits = k-small w; no-integer = p .0 .0; all-children = z }, whole-first a ts all), whole-rest a ts all);
     }
 
 payload-sound : (x : ℕ) (l : List ℕ) (owed : ℕ) (o : Option Terms) → Sound l (pred owed) o → Sound (integerWord ∷ x ∷ l) owed (before (int x) o)
-unfolding before wordsOf words count
+unfolding before wordsOf words count PlainAll WholeAll
 payload-sound x l owed none s = tt
-payload-sound x l owed (some ts) s = record { same-words = ap (λ (m : List ℕ). integerWord ∷ x ∷ m) (s .same-words); enough = omega (arith, s .enough) }
+payload-sound x l owed (some ts) s =
+    record {
+      same-words = ap (λ (m : List ℕ). integerWord ∷ x ∷ m) (s .same-words);
+      enough = omega (arith, s .enough);
+      whole = λ p. (tt, s .whole (p .1));
+    }
 
 word-sound : (w : ℕ) (l : List ℕ) (owed : ℕ) → Sound (integerWord ∷ l) owed (readPayload l (pred owed)) → Sound l (arity (tagOf w) (nOf w) + pred owed) (read l (arity (tagOf w) (nOf w) + pred owed))
     → Sound (w ∷ l) owed (read (w ∷ l) owed)
@@ -113,10 +138,10 @@ word-sound w l owed payload below = go (ℕ-discrete w integerWord)
     go (no d) = rw (read-node w l owed d) (under-sound w l owed _ below)
 
 mutual
-  unfolding read wordsOf count
+  unfolding read wordsOf count WholeAll
 
   sound : (l : List ℕ) (owed : ℕ) → Sound l owed (read l owed)
-  sound [] zero = record { same-words = refl; enough = omega arith }
+  sound [] zero = record { same-words = refl; enough = omega arith; whole = λ p. tt }
   sound [] (suc owed) = tt
   sound (w ∷ l) owed = word-sound w l owed (sound-payload l owed) (sound l (arity (tagOf w) (nOf w) + pred owed))
 

@@ -1,15 +1,14 @@
 -- What the code's reading for shape returns, by the tests that it makes.
-use Prim.Native.Nat.{ℕ, zero, suc, _+_, _-_, _≤_, _<_}
-use mathlib.Core.Path.{_≡_, refl, sym, ap, _∙_}
+use Prim.Native.Nat.{ℕ, suc, _+_, _-_, _≤_, _<_}
+use mathlib.Core.Path.{_≡_, sym, ap, _∙_}
 use mathlib.Core.Bool.{Bool, true, false, not}
-use mathlib.Core.Option.{Option, none, some}
-use mathlib.Core.List.{List, [], _∷_, _++_, append-assoc}
+use mathlib.Core.List.{List, _∷_, _++_, append-assoc}
 use native.Mathlib.Omega.{arith}
 use native.Mathlib.Numerals.{add-one}
 use lib.ListN.{length, getD, drop, replicate, drop-of-length-le}
 use Rattle.lists.proofs.Tests.{not-true, not-false}
 use Rattle.term.specs.Words.{tagOf, tagInteger}
-use Rattle.term.specs.Table.{fits, childSpots}
+use Rattle.term.specs.Table.{fits}
 use Rattle.term.specs.Shape.{shape, shapePayload}
 use Rattle.term.specs.declared.shape.Spots.{Spots}
 use Rattle.term.specs.declared.shape.Reading.{Reading}

@@ -1,10 +1,9 @@
 -- The functions of a well-shaped module, gone through one after another for the rules.
-use Prim.Native.Nat.{ℕ, zero, suc, _+_, _-_, _≤_, _<_}
+use Prim.Native.Nat.{ℕ, zero, suc, _+_, _≤_, _<_}
 use mathlib.Core.Path.{_≡_, refl, sym, ap, _∙_}
-use mathlib.Core.Logic.{_⊎_, inl, inr}
-use mathlib.Core.Bool.{Bool, true, false, _||_}
-use mathlib.Core.Option.{Option, none, some}
-use mathlib.Core.List.{List, [], _∷_, _++_, append-nil}
+use mathlib.Core.Logic.{inl, inr}
+use mathlib.Core.Bool.{Bool, true, false}
+use mathlib.Core.List.{List, [], _++_}
 use native.Mathlib.Omega.{arith}
 use native.Mathlib.Numerals.{add-one}
 use lib.Dec.{eqb}
@@ -13,20 +12,19 @@ use Rattle.lists.specs.Lists.{member, upTo}
 use Rattle.lists.proofs.Tests.{eqb-true, or-true, true-not-false}
 use Rattle.term.specs.Words.{word, tagOf, nOf, tagFunction}
 use Rattle.term.specs.Table.{table, rowOf, childCount, arity, tagsAt, fits, childSpots, spotFunction}
-use Rattle.term.specs.Tree.{Term, Terms, int, node, end, _then_, words, wordsOf, count}
+use Rattle.term.specs.Tree.{Terms, int, node, end, _then_, words, wordsOf}
 use Rattle.term.specs.Fit.{Fit, FitAll}
-use Rattle.term.specs.Binding.{Walk, breaks, passes, andThen, keepsAll, functionKeeps, functionsKeep}
+use Rattle.term.specs.Binding.{Walk, andThen, keepsAll, functionKeeps, functionsKeep}
 use Rattle.term.specs.Module.{breaker}
-use Rattle.term.specs.declared.module.Checked.{Checked}
 use Rattle.term.specs.declared.module.Checked.the-variants.{Good, Bad}
 use Rattle.term.specs.declared.binding.Gone.{Gone}
 use Rattle.term.specs.declared.binding.Gone.the-variants.{Past, Broke}
-use Rattle.term.specs.Walking.{Marks, Stands, Keeps}
+use Rattle.term.specs.Walking.{Marks, Stands, Keeps, variables, checkNumbers}
 use Rattle.term.specs.Checking.{badOf, KeepsFunctions}
 use Rattle.term.proofs.WordLaws.{tag-word, n-word}
 use Rattle.term.proofs.RowLaws.{drop-head}
 use Rattle.term.proofs.ShapeLaws.{fits-parts}
-use Rattle.term.proofs.StandLaws.{Here, here, drop-past}
+use Rattle.term.proofs.StandLaws.{here, drop-past}
 use Rattle.term.proofs.WalkLaws.{agrees-broke, agrees-past}
 use Rattle.term.proofs.ControlLaws.{no-marks}
 use Rattle.term.proofs.FunctionLaws.{no-integer-function, no-words}
@@ -90,15 +88,15 @@ record Left (l arities : List ℕ) (at : ℕ) (checks : List Bool) (ts : Terms) 
   numbers : List ℕ
   fit : FitAll 0 left (replicate many spotFunction)
   row : drop at l ≡ wordsOf left
-  marks : Marks 256 checks numbers
+  marks : Marks checkNumbers checks numbers
   same : functionsKeep arities ts 0 [] ≡ functionsKeep arities left at numbers
 
 pub record Going (l arities : List ℕ) (at : ℕ) (checks : List Bool) : Type 0 where
   to-come : (ts : Terms) (m : ℕ) → FitAll 0 ts (replicate m spotFunction) → wordsOf ts ≡ l → Left l arities at checks ts
 
-pub going-start : (l arities : List ℕ) → Going l arities 0 (replicate 256 false)
+pub going-start : (l arities : List ℕ) → Going l arities 0 (replicate checkNumbers false)
 going-start l arities =
-    record { to-come = λ ts m f e. record { left = ts; many = m; numbers = []; fit = f; row = sym e; marks = no-marks 256; same = refl } }
+    record { to-come = λ ts m f e. record { left = ts; many = m; numbers = []; fit = f; row = sym e; marks = no-marks checkNumbers; same = refl } }
 
 -- a function, then the others
 functions-step : (arities : List ℕ) (tag n k : ℕ) (us ts : Terms) (at : ℕ) (checks : List ℕ)
@@ -118,7 +116,7 @@ module _ (l arities : List ℕ) (at : ℕ) (checks : List Bool) (s : Going l ari
             sym (ap breaker (c .same ∙ ap (λ (us : Terms). functionsKeep arities us at (c .numbers)) z));
       }
 
-  module _ (lt : at < length l) (n : ℕ) (en : n ≡ nOf (getD l at 0)) (scope : List Bool) (m : Marks 64 scope (upTo n)) (after : List Bool) (g : Gone) (k : Keeps l (at + 1) 1 scope arities true checks after g) where
+  module _ (lt : at < length l) (n : ℕ) (en : n ≡ nOf (getD l at 0)) (scope : List Bool) (m : Marks variables scope (upTo n)) (after : List Bool) (g : Gone) (k : Keeps l (at + 1) 1 scope arities true checks after g) where
     walk : (ts : Terms) (c : Left l arities at checks ts) (f : FunctionHere l at (c .left))
         → functionsKeep arities ts 0 [] ≡ andThen (keepsAll arities true (upTo (f .n)) (f .children) (at + 1) (c .numbers)) (λ at′ scope′ checks′. functionsKeep arities (f .others) at′ checks′)
     walk ts c f = c .same ∙ ap (λ (us : Terms). functionsKeep arities us at (c .numbers)) (f .is) ∙ functions-step arities (f .tag) (f .n) (f .k) (f .children) (f .others) at (c .numbers)
@@ -130,7 +128,7 @@ module _ (l arities : List ℕ) (at : ℕ) (checks : List Bool) (s : Going l ari
           answer = λ ts j f q.
               let c = s .to-come ts j f q in
               let h = function-here l at (c .left) (c .many) (c .fit) (c .row) lt in
-              let mm : Marks 64 scope (upTo (h .n)) = rw (en ∙ h .n-is) at m in
+              let mm : Marks variables scope (upTo (h .n)) = rw (en ∙ h .n-is) at m in
               let w = agrees-broke _ _ _ g p (k .answer (h .children) (upTo (h .n)) (c .numbers) (h .stands) mm (c .marks)) e in
               sym (ap breaker (walk ts c h ∙ ap (λ (x : Walk). andThen x (λ at′ scope′ checks′. functionsKeep arities (h .others) at′ checks′)) w));
         }
@@ -142,7 +140,7 @@ module _ (l arities : List ℕ) (at : ℕ) (checks : List Bool) (s : Going l ari
           to-come = λ ts j f q.
               let c = s .to-come ts j f q in
               let h = function-here l at (c .left) (c .many) (c .fit) (c .row) lt in
-              let mm : Marks 64 scope (upTo (h .n)) = rw (en ∙ h .n-is) at m in
+              let mm : Marks variables scope (upTo (h .n)) = rw (en ∙ h .n-is) at m in
               let w = agrees-past _ _ _ g a (k .answer (h .children) (upTo (h .n)) (c .numbers) (h .stands) mm (c .marks)) e in
               record {
                 left = h .others;

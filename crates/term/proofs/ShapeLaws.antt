@@ -13,7 +13,7 @@ use lib.ListN.{length, getD, replicate, length-append, length-replicate}
 use Rattle.lists.specs.Lists.{member}
 use Rattle.lists.proofs.Tests.{eqb-of, eqb-apart, leb-true, ltb-true, and-left, and-right, true-or-false, none-not-some}
 use Rattle.term.specs.Words.{word, tagOf, nOf, kOf, integerWord, tagInteger}
-use Rattle.term.specs.Table.{Children, alike, body, ofClause, ofCase, ofReceive, Row, noRow, table, rowOf, childCount, arity, tagsAt, kLimit, fits, ownSpot, spotsBelow, childSpots, spotFunction, spotExpression}
+use Rattle.term.specs.Table.{Children, alike, body, ofClause, ofCase, ofReceive, Row, noRow, table, rowOf, childCount, arity, tagsAt, kLimit, fits, ownSpot, spotsBelow, childSpots, spotFunction, spotExpression, spotClause}
 use Rattle.term.specs.Tree.{Term, Terms, int, node, end, _then_, words, wordsOf, count, first, rest, Whole, WholeAll}
 use Rattle.term.specs.Read.{termsOf, termOf}
 use Rattle.term.specs.Shape.{wanted, shape, shapePayload, moduleShape, controlShape}
@@ -149,8 +149,8 @@ unfolding spotsBelow childCount
 spots-arity alike s tag n three = length-replicate n (ownSpot s tag)
 spots-arity body s tag n three = refl
 spots-arity ofClause s tag n three = sym (three refl)
-spots-arity ofCase s tag n three = ap suc (length-replicate {A = ℕ} n 4)
-spots-arity ofReceive s tag n three = length-replicate {A = ℕ} n 4
+spots-arity ofCase s tag n three = ap suc (length-replicate n spotClause)
+spots-arity ofReceive s tag n three = length-replicate n spotClause
 
 pub child-count : (places s w : ℕ) → fits places s w ≡ true → length (childSpots s w) ≡ arity (tagOf w) (nOf w)
 unfolding childSpots arity

@@ -2,19 +2,19 @@
 use Prim.Native.Nat.{ℕ, zero, suc, _+_, _≤_, _<_}
 use mathlib.Core.Path.{_≡_, refl, sym, ap, _∙_}
 use mathlib.Core.Bool.{Bool, true, false, cond, not, _&&_}
-use mathlib.Core.List.{List, [], _∷_, _++_, append-nil}
+use mathlib.Core.List.{List, [], _∷_, append-nil}
 use native.Mathlib.Omega.{arith}
 use native.Mathlib.Nat.{add-zero, zero-add, add-suc, suc-add}
 use lib.Dec.{eqb, leb, ltb}
-use lib.ListN.{length, getD, replicate}
+use lib.ListN.{getD, replicate}
 use Rattle.lists.specs.Lists.{member}
 use native.Mathlib.Decide.{ℕ-discrete}
 use Rattle.lists.proofs.Tests.{eqb-of, eqb-apart, cond-true, cond-false, ltb-true, leb-of, leb-over, not-true, not-false, and-left, and-right}
 use Rattle.term.specs.Words.{tagOf, nOf, kOf, tagPid, tagCall}
-use Rattle.term.specs.Table.{Children, alike, body, ofClause, ofCase, ofReceive, rowOf, tagsAt, kLimit, fits, ownSpot, spotsBelow, childSpots, spotGuard, spotValue}
-use Rattle.term.specs.Kinds.{kindOf}
+use Rattle.term.specs.Table.{Children, alike, body, ofClause, ofCase, ofReceive, rowOf, tagsAt, kLimit, fits, ownSpot, spotsBelow, childSpots, spotGuard, spotValue, spotFunction, spotExpression, spotPattern, spotClause}
+use Rattle.term.specs.Kinds.{kindOf, kindBody, kindClause, kindCase, kindReceive}
 use Rattle.term.specs.declared.shape.Spots.{Spots}
-use Rattle.term.specs.Reading.{RunsOf}
+use Rattle.term.specs.Reading.{RunsOf, oneRun}
 
 -- which of n tags, from one on, stand in a list: 1 where one does
 unfoldable pub flags : List ℕ → (tag n : ℕ) → List ℕ
@@ -40,7 +40,7 @@ row-tells tags tag h = flag-at tags 0 19 tag h ∙ ap (λ (j : ℕ). member j ta
 
 -- all rows, the last that of a control's guard
 unfoldable pub rows : List (List ℕ)
-rows = rowAt 0 0 ∷ rowAt 0 1 ∷ rowAt 0 2 ∷ rowAt 0 3 ∷ rowAt 0 4 ∷ rowAt 0 5 ∷ rowAt 1 3 ∷ []
+rows = rowAt 0 spotFunction ∷ rowAt 0 spotExpression ∷ rowAt 0 spotPattern ∷ rowAt 0 spotGuard ∷ rowAt 0 spotClause ∷ rowAt 0 spotValue ∷ rowAt 1 spotGuard ∷ []
 
 -- with places, a guard is one of a control
 guard-module : (places : ℕ) → places ≡ 0 → tagsAt places spotGuard ≡ tagsAt 0 spotGuard
@@ -93,12 +93,12 @@ stands-spot places (suc (suc (suc (suc (suc (suc spot)))))) tag h = refl
 -- the default past the rows does not matter
 pub stands-other : (places spot tag : ℕ) (past : List ℕ) → tag < 19 → spot < 6 → ¬ (spot ≡ spotGuard) → eqb (getD (getD rows spot past) tag 0) 1 ≡ member tag (tagsAt places spot)
 unfolding rows rowAt tagsAt
-stands-other places zero tag past ht hs d = row-tells (tagsAt 0 0) tag ht
-stands-other places (suc zero) tag past ht hs d = row-tells (tagsAt 0 1) tag ht
-stands-other places (suc (suc zero)) tag past ht hs d = row-tells (tagsAt 0 2) tag ht
+stands-other places zero tag past ht hs d = row-tells (tagsAt 0 spotFunction) tag ht
+stands-other places (suc zero) tag past ht hs d = row-tells (tagsAt 0 spotExpression) tag ht
+stands-other places (suc (suc zero)) tag past ht hs d = row-tells (tagsAt 0 spotPattern) tag ht
 stands-other places (suc (suc (suc zero))) tag past ht hs d = absurd (d refl)
-stands-other places (suc (suc (suc (suc zero)))) tag past ht hs d = row-tells (tagsAt 0 4) tag ht
-stands-other places (suc (suc (suc (suc (suc zero))))) tag past ht hs d = row-tells (tagsAt 0 5) tag ht
+stands-other places (suc (suc (suc (suc zero)))) tag past ht hs d = row-tells (tagsAt 0 spotClause) tag ht
+stands-other places (suc (suc (suc (suc (suc zero))))) tag past ht hs d = row-tells (tagsAt 0 spotValue) tag ht
 stands-other places (suc (suc (suc (suc (suc (suc spot)))))) tag past ht hs d = absurd (omega arith)
 
 pub stands-guard : (places spot tag : ℕ) → tag < 19 → spot ≡ spotGuard → places ≡ 0 → eqb (getD (rowAt 0 spotGuard) tag 0) 1 ≡ member tag (tagsAt places spot)
@@ -162,7 +162,7 @@ module _ (places spot w t : ℕ) (et : t ≡ tagOf w) (s : Bool) (es : s ≡ mem
     fits-k e y ey x ex = sym (fits-grouped places spot w ∙ rw (← et, ← es, not-false s ts, ← en, ← em, not-false m e, ← ey, ← ex))
 
 -- the spots below a word, by the number of what stands there
-below-clause : (c : Children) (spot tag n : ℕ) → kindOf c ≡ 2 → 2 ∷ 3 ∷ 1 ∷ [] ≡ spotsBelow c spot tag n
+below-clause : (c : Children) (spot tag n : ℕ) → kindOf c ≡ kindClause → spotPattern ∷ spotGuard ∷ spotExpression ∷ [] ≡ spotsBelow c spot tag n
 unfolding kindOf spotsBelow
 below-clause alike spot tag n e = absurd (omega arith)
 below-clause body spot tag n e = absurd (omega arith)
@@ -170,7 +170,7 @@ below-clause ofClause spot tag n e = refl
 below-clause ofCase spot tag n e = absurd (omega arith)
 below-clause ofReceive spot tag n e = absurd (omega arith)
 
-below-case : (c : Children) (spot tag n : ℕ) → kindOf c ≡ 3 → 1 ∷ replicate n 4 ≡ spotsBelow c spot tag n
+below-case : (c : Children) (spot tag n : ℕ) → kindOf c ≡ kindCase → spotExpression ∷ replicate n spotClause ≡ spotsBelow c spot tag n
 unfolding kindOf spotsBelow
 below-case alike spot tag n e = absurd (omega arith)
 below-case body spot tag n e = absurd (omega arith)
@@ -178,7 +178,7 @@ below-case ofClause spot tag n e = absurd (omega arith)
 below-case ofCase spot tag n e = refl
 below-case ofReceive spot tag n e = absurd (omega arith)
 
-below-receive : (c : Children) (spot tag n : ℕ) → kindOf c ≡ 4 → replicate n 4 ≡ spotsBelow c spot tag n
+below-receive : (c : Children) (spot tag n : ℕ) → kindOf c ≡ kindReceive → replicate n spotClause ≡ spotsBelow c spot tag n
 unfolding kindOf spotsBelow
 below-receive alike spot tag n e = absurd (omega arith)
 below-receive body spot tag n e = absurd (omega arith)
@@ -186,7 +186,7 @@ below-receive ofClause spot tag n e = absurd (omega arith)
 below-receive ofCase spot tag n e = absurd (omega arith)
 below-receive ofReceive spot tag n e = refl
 
-below-body : (c : Children) (spot tag n : ℕ) → kindOf c ≡ 1 → 1 ∷ [] ≡ spotsBelow c spot tag n
+below-body : (c : Children) (spot tag n : ℕ) → kindOf c ≡ kindBody → spotExpression ∷ [] ≡ spotsBelow c spot tag n
 unfolding kindOf spotsBelow
 below-body alike spot tag n e = absurd (omega arith)
 below-body body spot tag n e = refl
@@ -194,7 +194,7 @@ below-body ofClause spot tag n e = absurd (omega arith)
 below-body ofCase spot tag n e = absurd (omega arith)
 below-body ofReceive spot tag n e = absurd (omega arith)
 
-below-alike : (c : Children) (spot tag n : ℕ) → ¬ (kindOf c ≡ 2) → ¬ (kindOf c ≡ 3) → ¬ (kindOf c ≡ 4) → ¬ (kindOf c ≡ 1) → replicate n (ownSpot spot tag) ≡ spotsBelow c spot tag n
+below-alike : (c : Children) (spot tag n : ℕ) → ¬ (kindOf c ≡ kindClause) → ¬ (kindOf c ≡ kindCase) → ¬ (kindOf c ≡ kindReceive) → ¬ (kindOf c ≡ kindBody) → replicate n (ownSpot spot tag) ≡ spotsBelow c spot tag n
 unfolding kindOf spotsBelow
 below-alike alike spot tag n a b c d = refl
 below-alike body spot tag n a b c d = absurd (d refl)
@@ -209,25 +209,25 @@ module _ (spot w n : ℕ) (en : n ≡ nOf w) (t : ℕ) (et : t ≡ tagOf w) (g :
   kind-is : g ≡ kindOfWord w
   kind-is = rw (← et) eg
 
-  pub runs-clause : g ≡ 2 → RunsOf spot w (record { first = 2; firsts = 1; second = 3; seconds = 1; third = 1; thirds = 1 })
+  pub runs-clause : g ≡ kindClause → RunsOf spot w (record { first = spotPattern; firsts = 1; second = spotGuard; seconds = 1; third = spotExpression; thirds = 1 })
   unfolding childSpots
   runs-clause e = below-clause (rowOf (tagOf w) .children) spot (tagOf w) (nOf w) (sym kind-is ∙ e)
 
-  pub runs-case : g ≡ 3 → RunsOf spot w (record { first = 1; firsts = 1; second = 4; seconds = n; third = 1; thirds = 0 })
+  pub runs-case : g ≡ kindCase → RunsOf spot w (record { first = spotExpression; firsts = 1; second = spotClause; seconds = n; third = spotExpression; thirds = 0 })
   unfolding childSpots
   runs-case e = rw (append-nil, en) (below-case (rowOf (tagOf w) .children) spot (tagOf w) (nOf w) (sym kind-is ∙ e))
 
-  pub runs-receive : g ≡ 4 → RunsOf spot w (record { first = 4; firsts = n; second = 1; seconds = 0; third = 1; thirds = 0 })
+  pub runs-receive : g ≡ kindReceive → (r : Spots) → r ≡ oneRun spotClause n → RunsOf spot w r
   unfolding childSpots
-  runs-receive e = rw (append-nil, en) (below-receive (rowOf (tagOf w) .children) spot (tagOf w) (nOf w) (sym kind-is ∙ e))
+  runs-receive e r er = rw (er, append-nil, en) (below-receive (rowOf (tagOf w) .children) spot (tagOf w) (nOf w) (sym kind-is ∙ e))
 
-  pub runs-body : g ≡ 1 → RunsOf spot w (record { first = 1; firsts = 1; second = 1; seconds = 0; third = 1; thirds = 0 })
+  pub runs-body : g ≡ kindBody → (r : Spots) → r ≡ oneRun spotExpression 1 → RunsOf spot w r
   unfolding childSpots
-  runs-body e = below-body (rowOf (tagOf w) .children) spot (tagOf w) (nOf w) (sym kind-is ∙ e)
+  runs-body e r er = rw er (below-body (rowOf (tagOf w) .children) spot (tagOf w) (nOf w) (sym kind-is ∙ e))
 
-  pub runs-alike : ¬ (g ≡ 2) → ¬ (g ≡ 3) → ¬ (g ≡ 4) → ¬ (g ≡ 1) → (o : ℕ) → o ≡ ownSpot spot t → RunsOf spot w (record { first = o; firsts = n; second = 1; seconds = 0; third = 1; thirds = 0 })
+  pub runs-alike : ¬ (g ≡ kindClause) → ¬ (g ≡ kindCase) → ¬ (g ≡ kindReceive) → ¬ (g ≡ kindBody) → (o : ℕ) → o ≡ ownSpot spot t → (r : Spots) → r ≡ oneRun o n → RunsOf spot w r
   unfolding childSpots
-  runs-alike a b c d o eo =
-      rw (append-nil, en, eo, et) (
+  runs-alike a b c d o eo r er =
+      rw (er, append-nil, en, eo, et) (
       below-alike (rowOf (tagOf w) .children) spot (tagOf w) (nOf w)
       (λ i. a (kind-is ∙ i)) (λ i. b (kind-is ∙ i)) (λ i. c (kind-is ∙ i)) (λ i. d (kind-is ∙ i)))

@@ -9,11 +9,11 @@ use lib.ListN.{length, getD, drop, length-append, length-drop}
 use lib.Seq.{drop-drop, drop-append-seam}
 use Rattle.term.specs.Words.{word, tagOf, nOf, kOf, tagInteger, integerWord}
 use Rattle.term.specs.Table.{arity, fits, childSpots}
-use Rattle.term.specs.Tree.{Term, Terms, int, node, end, _then_, words, wordsOf, count, Head}
+use Rattle.term.specs.Tree.{Terms, int, node, end, _then_, words, wordsOf, count}
 use Rattle.term.specs.Fit.{Fit, FitAll}
 use Rattle.term.specs.Walking.{Stands}
 use Rattle.term.proofs.WordLaws.{tag-word, n-word, k-word}
-use Rattle.term.proofs.TreeLaws.{_andAll_, words-all, count-all}
+use Rattle.term.proofs.TreeLaws.{_andAll_, words-all}
 
 -- what stands at a position, where what is left from there is known
 pub record Here (l : List ℕ) (at w : ℕ) (after : List ℕ) : Type 0 where

@@ -1,15 +1,15 @@
 -- The code's tables hold what the table of the 18 tags says: one test computed over each column.
-use Prim.Native.Nat.{ℕ, zero, suc, _+_, _≤_, _<_}
-use mathlib.Core.Path.{_≡_, refl, sym, ap, _∙_}
-use mathlib.Core.Bool.{Bool, true, false, cond}
-use mathlib.Core.List.{List, [], _∷_, map}
+use Prim.Native.Nat.{ℕ, suc, _+_, _≤_}
+use mathlib.Core.Path.{_≡_, refl, sym, _∙_}
+use mathlib.Core.Bool.{cond}
+use mathlib.Core.List.{map}
 use native.Mathlib.Omega.{arith}
 use lib.Dec.{eqb}
-use lib.ListN.{length, getD, List·getD-map, List·getD-eq-default}
+use lib.ListN.{getD, List·getD-map, List·getD-eq-default}
 use Rattle.lists.proofs.Tests.{eqb-of, eqb-apart, cond-true, cond-false}
 use Rattle.term.specs.Words.{tagOf, nOf, tagInteger}
 use Rattle.term.specs.Table.{Children, alike, body, ofClause, ofCase, ofReceive, Row, noRow, table, rowOf, childCount, arity}
-use Rattle.term.specs.Kinds.{kindOf, ChildCount}
+use Rattle.term.specs.Kinds.{kindOf, ChildCount, kindBody, kindCase}
 
 -- a column of the table, at any row
 pub at-row : (column : Row → ℕ) (tag : ℕ) → column (rowOf tag) ≡ getD (map column table) tag (column noRow)
@@ -22,7 +22,7 @@ unfolding rowOf table
 past-rows tag h = sym (List·getD-eq-default table noRow h)
 
 -- how many children a word has, by the number of what stands below it
-arity-body : (c : Children) (n : ℕ) → kindOf c ≡ 1 → childCount c n ≡ 1
+arity-body : (c : Children) (n : ℕ) → kindOf c ≡ kindBody → childCount c n ≡ 1
 unfolding kindOf childCount
 arity-body alike n e = absurd (omega arith)
 arity-body body n e = refl
@@ -30,7 +30,7 @@ arity-body ofClause n e = absurd (omega arith)
 arity-body ofCase n e = absurd (omega arith)
 arity-body ofReceive n e = absurd (omega arith)
 
-arity-case : (c : Children) (n : ℕ) → kindOf c ≡ 3 → childCount c n ≡ suc n
+arity-case : (c : Children) (n : ℕ) → kindOf c ≡ kindCase → childCount c n ≡ suc n
 unfolding kindOf childCount
 arity-case alike n e = absurd (omega arith)
 arity-case body n e = absurd (omega arith)
@@ -38,7 +38,7 @@ arity-case ofClause n e = absurd (omega arith)
 arity-case ofCase n e = refl
 arity-case ofReceive n e = absurd (omega arith)
 
-arity-other : (c : Children) (n : ℕ) → ¬ (kindOf c ≡ 1) → ¬ (kindOf c ≡ 3) → childCount c n ≡ n
+arity-other : (c : Children) (n : ℕ) → ¬ (kindOf c ≡ kindBody) → ¬ (kindOf c ≡ kindCase) → childCount c n ≡ n
 unfolding kindOf childCount
 arity-other alike n d e = refl
 arity-other body n d e = absurd (d refl)
@@ -47,15 +47,15 @@ arity-other ofCase n d e = absurd (e refl)
 arity-other ofReceive n d e = refl
 
 module _ (w t g : ℕ) (et : t ≡ tagOf w) (eg : g ≡ kindOf (rowOf t .children)) where
-  pub count-body : g ≡ 1 → ChildCount w 1
+  pub count-body : g ≡ kindBody → ChildCount w 1
   unfolding arity
   count-body e = record { is = sym (arity-body (rowOf (tagOf w) .children) (nOf w) (rw et at (sym eg ∙ e))); few = omega arith }
 
-  pub count-case : (n : ℕ) → n ≡ nOf w → g ≡ 3 → ChildCount w (n + 1)
+  pub count-case : (n : ℕ) → n ≡ nOf w → g ≡ kindCase → ChildCount w (n + 1)
   unfolding arity
   count-case n en e = record { is = omega (arith, en, arity-case (rowOf (tagOf w) .children) (nOf w) (rw et at (sym eg ∙ e))); few = omega arith }
 
-  pub count-other : (n : ℕ) → n ≡ nOf w → ¬ (g ≡ 1) → ¬ (g ≡ 3) → ChildCount w n
+  pub count-other : (n : ℕ) → n ≡ nOf w → ¬ (g ≡ kindBody) → ¬ (g ≡ kindCase) → ChildCount w n
   unfolding arity
   count-other n en d e =
       record {

@@ -4,6 +4,7 @@ use mathlib.Core.Path.{_≡_, refl, sym, ap, _∙_}
 use mathlib.Core.List.{_++_, append-assoc, append-nil}
 use native.Mathlib.Omega.{arith}
 use native.Mathlib.Nat.{zero-add, suc-add}
+use lib.ListN.{length, length-append}
 use Rattle.term.specs.Tree.{Term, Terms, end, _then_, words, wordsOf, count, first, rest, WholeAll}
 
 infixr 20 _andAll_
@@ -16,6 +17,9 @@ pub words-all : (ts us : Terms) → wordsOf (ts andAll us) ≡ wordsOf ts ++ wor
 unfolding wordsOf _andAll_
 words-all end us = refl
 words-all (t then ts) us = rw (words-all ts us, append-assoc)
+
+pub length-all : (ts us : Terms) → length (wordsOf (ts andAll us)) ≡ length (wordsOf ts) + length (wordsOf us)
+length-all ts us = ap length (words-all ts us) ∙ length-append (wordsOf ts) (wordsOf us)
 
 pub count-all : (ts us : Terms) → count (ts andAll us) ≡ count ts + count us
 unfolding count _andAll_
@@ -61,3 +65,15 @@ count-first (suc n) (t then ts) h = ap suc (count-first n ts (omega arith))
 
 pub words-split : (n : ℕ) (ts : Terms) → wordsOf ts ≡ wordsOf (first n ts) ++ wordsOf (rest n ts)
 words-split n ts = ap wordsOf (sym (first-and-rest n ts)) ∙ words-all (first n ts) (rest n ts)
+
+pub whole-first : (n : ℕ) (ts : Terms) → WholeAll ts → WholeAll (first n ts)
+unfolding first WholeAll
+whole-first zero ts h = tt
+whole-first (suc n) end h = tt
+whole-first (suc n) (t then ts) h = (h .0, whole-first n ts (h .1))
+
+pub whole-rest : (n : ℕ) (ts : Terms) → WholeAll ts → WholeAll (rest n ts)
+unfolding rest WholeAll
+whole-rest zero ts h = h
+whole-rest (suc n) end h = tt
+whole-rest (suc n) (t then ts) h = whole-rest n ts (h .1)

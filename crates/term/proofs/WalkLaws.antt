@@ -1,25 +1,25 @@
 -- What the code's walk outside patterns returns, by the tests that it makes.
-use Prim.Native.Nat.{ℕ, zero, suc, _+_, _-_, _≤_, _<_}
+use Prim.Native.Nat.{ℕ, suc, _+_, _-_, _≤_, _<_}
 use mathlib.Core.Path.{_≡_, refl, sym, ap, _∙_, subst}
 use mathlib.Core.Bool.{Bool, true, false, not}
-use mathlib.Core.List.{List, [], _∷_, _++_}
+use mathlib.Core.List.{List, _∷_}
 use native.Mathlib.Omega.{arith}
 use native.Mathlib.Nat.{add-zero}
 use native.Mathlib.Numerals.{add-one}
 use lib.Dec.{eqb}
-use lib.ListN.{length, getD, length-append}
+use lib.ListN.{length, getD}
 use Rattle.lists.proofs.Tests.{eqb-of, eqb-apart, not-true, not-false}
 use Rattle.term.specs.Words.{tagOf, nOf, kOf, tagInteger, tagLet, tagClause}
 use Rattle.term.specs.Table.{arity, table, rowOf, childCount}
-use Rattle.term.specs.Tree.{Term, Terms, int, node, end, _then_, words, wordsOf, count}
+use Rattle.term.specs.Tree.{Term, Terms, node, end, _then_, wordsOf, count}
 use Rattle.term.specs.Binding.{Walk, breaks, passes, andThen, binds, bindsAll, keepsRule, checksAfter, keeps, keepsAll, keepsLet, keepsClause}
 use Rattle.term.specs.Kinds.{ChildCount}
 use Rattle.term.specs.declared.binding.Gone.{Gone}
 use Rattle.term.specs.declared.binding.Gone.the-variants.{Past, Broke}
-use Rattle.term.specs.Walking.{Marks, Stands, Agrees, Onward, Binds, Rules, Keeps, KeepsBoth}
-use Rattle.term.proofs.TreeLaws.{_andAll_, words-all, count-all}
+use Rattle.term.specs.Walking.{Marks, Stands, Agrees, Onward, Binds, Rules, Keeps, KeepsBoth, variables, checkNumbers}
+use Rattle.term.proofs.TreeLaws.{length-all, _andAll_}
 use Rattle.term.proofs.ShapeLaws.{fits-parts}
-use Rattle.term.proofs.StandLaws.{IntegerHere, NodeHere, stands-none, stands-first, stands-second, stands-integer, stands-node}
+use Rattle.term.proofs.StandLaws.{NodeHere, stands-none, stands-first, stands-second, stands-integer, stands-node}
 use Rattle.term.proofs.BindLaws.{then-then, onward-from, agrees-with, none-past, none-short, integer-stop, node-stop, node-next}
 
 -- a walk that broke, and one that passed
@@ -172,9 +172,6 @@ pub record Parts (l : List ℕ) (at owed m : ℕ) (ts : Terms) (head : Term) (ta
   pub third : Stands l (at + 1 + length (wordsOf (head then end)) + length (wordsOf tail)) (owed - 1) others
   pub stop : at + length (wordsOf ts) ≡ at + 1 + length (wordsOf (head then end)) + length (wordsOf tail) + length (wordsOf others)
 
-length-all : (ts us : Terms) → length (wordsOf (ts andAll us)) ≡ length (wordsOf ts) + length (wordsOf us)
-length-all ts us = ap length (words-all ts us) ∙ length-append (wordsOf ts) (wordsOf us)
-
 parts : (l : List ℕ) (at owed m : ℕ) (ts : Terms) (h : NodeHere l at owed ts) (p : Split (h .children) m) → Parts l at owed m ts (p .head) (p .tail) (h .others)
 unfolding _andAll_ count
 parts l at owed m ts h p =
@@ -240,7 +237,7 @@ module _ (l : List ℕ) (at owed : ℕ) (marks : List Bool) (arities : List ℕ)
           node-at : (ts : Terms) → Stands l at owed ts → NodeHere l at owed ts
           node-at ts s = stands-node l at owed ts ne (λ i. d (et ∙ i)) s
 
-          rule-is : (ts : Terms) (h : NodeHere l at owed ts) (scope checks : List ℕ) → Marks 64 marks scope → Marks 256 before checks → v ≡ keepsRule arities unique scope checks (h .tag) (h .n) (h .k)
+          rule-is : (ts : Terms) (h : NodeHere l at owed ts) (scope checks : List ℕ) → Marks variables marks scope → Marks checkNumbers before checks → v ≡ keepsRule arities unique scope checks (h .tag) (h .n) (h .k)
           rule-is ts h scope checks m g = rw (← h .tag-is, ← h .n-is, ← h .k-is) (rules .answer (h .places) (h .spot) scope checks (h .fit) m g)
 
           pub keep-broken : not v ≡ true → Keeps l at owed marks arities unique before before (Broke at)
@@ -258,11 +255,11 @@ module _ (l : List ℕ) (at owed : ℕ) (marks : List Bool) (arities : List ℕ)
               }
 
           module _ (f : not v ≡ false) where
-            rule-kept : (ts : Terms) (h : NodeHere l at owed ts) (scope checks : List ℕ) → Marks 64 marks scope → Marks 256 before checks → keepsRule arities unique scope checks (h .tag) (h .n) (h .k) ≡ true
+            rule-kept : (ts : Terms) (h : NodeHere l at owed ts) (scope checks : List ℕ) → Marks variables marks scope → Marks checkNumbers before checks → keepsRule arities unique scope checks (h .tag) (h .n) (h .k) ≡ true
             rule-kept ts h scope checks m g = sym (rule-is ts h scope checks m g) ∙ not-false v f
 
             pub keep-plain : ¬ (t ≡ tagLet) → ¬ (t ≡ tagClause) → (met : List Bool)
-                → ((numbers : List ℕ) → Marks 256 before numbers → Marks 256 met (checksAfter (tagOf (getD l at 0)) (kOf (getD l at 0)) numbers))
+                → ((numbers : List ℕ) → Marks checkNumbers before numbers → Marks checkNumbers met (checksAfter (tagOf (getD l at 0)) (kOf (getD l at 0)) numbers))
                 → (c : ℕ) → ChildCount (getD l at 0) c → (after : List Bool) (r : Gone) → Keeps l (at + 1) (owed - 1 + c) marks arities unique met after r → Keeps l at owed marks arities unique before after r
             keep-plain dl dc met hm c hc after r b =
                 record {
@@ -285,7 +282,7 @@ module _ (l : List ℕ) (at owed : ℕ) (marks : List Bool) (arities : List ℕ)
 
             -- a let: its bound part, then its body in the inner scope
             module _ (e : t ≡ tagLet) (mid : List Bool) (first : Gone) (hf : Keeps l (at + 1) 1 marks arities unique before mid first) where
-              let-walk : (ts : Terms) (h : NodeHere l at owed ts) (c : Split (h .children) 1) (scope checks : List ℕ) → Marks 64 marks scope → Marks 256 before checks
+              let-walk : (ts : Terms) (h : NodeHere l at owed ts) (c : Split (h .children) 1) (scope checks : List ℕ) → Marks variables marks scope → Marks checkNumbers before checks
                   → keepsAll arities unique scope ts at checks ≡ andThen (keepsAll arities unique scope (c .head then end) (at + 1) checks) (let-next h c scope)
               unfolding let-next
               let-walk ts h c scope checks m g =
@@ -305,7 +302,7 @@ module _ (l : List ℕ) (at owed : ℕ) (marks : List Bool) (arities : List ℕ)
                     onward = onward-from at (at + 1) first (omega arith) (hf .onward);
                   }
 
-              pub let-done : (a : ℕ) → first ≡ Past a → (k : ℕ) → k ≡ kOf (getD l at 0) → (inner : List Bool) → ((scope : List ℕ) → Marks 64 marks scope → Marks 64 inner (k ∷ scope))
+              pub let-done : (a : ℕ) → first ≡ Past a → (k : ℕ) → k ≡ kOf (getD l at 0) → (inner : List Bool) → ((scope : List ℕ) → Marks variables marks scope → Marks variables inner (k ∷ scope))
                   → (after : List Bool) (r : Gone) → KeepsBoth l a 1 (owed - 1) inner marks arities unique mid after r → Keeps l at owed marks arities unique before after r
               unfolding andThen let-next
               let-done a ea k ek inner hi after r b =
@@ -323,7 +320,7 @@ module _ (l : List ℕ) (at owed : ℕ) (marks : List Bool) (arities : List ℕ)
 
             -- a clause: its pattern, then guard and body in the inner scope
             module _ (dl : ¬ (t ≡ tagLet)) (e : t ≡ tagClause) (inner : List Bool) (first : Gone) (hf : Binds l (at + 1) 1 marks inner first) where
-              clause-walk : (ts : Terms) (h : NodeHere l at owed ts) (c : Split (h .children) 2) (scope checks : List ℕ) → Marks 64 marks scope → Marks 256 before checks
+              clause-walk : (ts : Terms) (h : NodeHere l at owed ts) (c : Split (h .children) 2) (scope checks : List ℕ) → Marks variables marks scope → Marks checkNumbers before checks
                   → keepsAll arities unique scope ts at checks ≡ andThen (bindsAll scope (c .head then end) (at + 1) checks) (clause-next h c scope)
               unfolding clause-next
               clause-walk ts h c scope checks m g =

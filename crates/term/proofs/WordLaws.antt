@@ -1,6 +1,7 @@
 -- Laws of words: the parts of a word that was put together, and a word put together of its parts.
 use Prim.Native.Nat.{ℕ, _<_}
 use mathlib.Core.Path.{_≡_, ap}
+use mathlib.Core.List.{List}
 use native.Mathlib.Omega.{arith}
 use Rattle.term.specs.Words.{word, tagOf, nOf, kOf, integerWord, tagInteger}
 

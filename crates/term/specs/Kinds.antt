@@ -4,12 +4,27 @@ use mathlib.Core.Path.{_≡_}
 use Rattle.term.specs.Words.{tagOf, nOf}
 use Rattle.term.specs.Table.{Children, alike, body, ofClause, ofCase, ofReceive, rowOf, arity}
 
+abbrev pub kindAlike : ℕ
+kindAlike = 0
+
+abbrev pub kindBody : ℕ
+kindBody = 1
+
+abbrev pub kindClause : ℕ
+kindClause = 2
+
+abbrev pub kindCase : ℕ
+kindCase = 3
+
+abbrev pub kindReceive : ℕ
+kindReceive = 4
+
 unfoldable pub kindOf : Children → ℕ
-kindOf alike = 0
-kindOf body = 1
-kindOf ofClause = 2
-kindOf ofCase = 3
-kindOf ofReceive = 4
+kindOf alike = kindAlike
+kindOf body = kindBody
+kindOf ofClause = kindClause
+kindOf ofCase = kindCase
+kindOf ofReceive = kindReceive
 
 -- r children follow the word w
 pub record ChildCount (w r : ℕ) : Type 0 where

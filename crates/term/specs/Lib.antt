@@ -13,4 +13,5 @@ pub mod Rows
 pub mod Reading
 pub mod Walking
 pub mod Checking
+pub mod Places
 pub mod Cases

@@ -7,7 +7,7 @@ use lib.ListN.{drop, replicate}
 use Rattle.term.specs.declared.shape.Spots.{Spots}
 use Rattle.term.specs.declared.shape.Reading.{Reading}
 use Rattle.term.specs.declared.shape.Reading.the-variants.{Ends, Fails}
-use Rattle.term.specs.Table.{childSpots}
+use Rattle.term.specs.Table.{childSpots, spotExpression}
 use Rattle.term.specs.Shape.{shape}
 
 -- what shape comes to after a reading: that of the other spots from its end on, or the word that failed
@@ -28,6 +28,10 @@ pub record Reads (places : ℕ) (l : List ℕ) (at spot times : ℕ) (r : Readin
   pub answer : (new others : List ℕ) → shape places new (drop at l) (replicate times spot ++ others) at ≡ onward places new l others r
   pub no-less : NoLess at r
   pub further : ¬ (times ≡ 0) → Further at r
+
+-- so many terms at one spot
+abbrev pub oneRun : (spot times : ℕ) → Spots
+oneRun spot times = record { first = spot; firsts = times; second = spotExpression; seconds = 0; third = spotExpression; thirds = 0 }
 
 -- three runs of spots that are together those of the children of w
 abbrev pub RunsOf : (spot w : ℕ) → Spots → Type 0

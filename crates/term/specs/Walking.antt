@@ -13,6 +13,13 @@ use Rattle.term.specs.Tree.{Terms, wordsOf, count, _then_, end}
 use Rattle.term.specs.Fit.{FitAll}
 use Rattle.term.specs.Binding.{Walk, breaks, passes, andThen, bindsAll, keepsRule, checksAfter, keepsAll}
 
+-- how many variables and how many check numbers there are
+abbrev pub variables : ℕ
+variables = 64
+
+abbrev pub checkNumbers : ℕ
+checkNumbers = 256
+
 -- a row of marks says which numbers below its size stand in a list
 pub record Marks (size : ℕ) (marks : List Bool) (numbers : List ℕ) : Type 0 where
   pub long : length marks ≡ size
@@ -40,24 +47,24 @@ Onward at (Broke q) = Unit {0}
 
 -- the variables of patterns come into a scope
 pub record Binds (l : List ℕ) (at owed : ℕ) (before after : List Bool) (r : Gone) : Type 0 where
-  pub answer : (ts : Terms) (scope checks : List ℕ) → Stands l at owed ts → Marks 64 before scope
-      → Agrees (at + length (wordsOf ts)) (λ scope′ checks′. Marks 64 after scope′ × (checks′ ≡ checks)) (bindsAll scope ts at checks) r
+  pub answer : (ts : Terms) (scope checks : List ℕ) → Stands l at owed ts → Marks variables before scope
+      → Agrees (at + length (wordsOf ts)) (λ scope′ checks′. Marks variables after scope′ × (checks′ ≡ checks)) (bindsAll scope ts at checks) r
   pub onward : Onward at r
 
 -- whether a word keeps its rule
 pub record Rules (w : ℕ) (marks : List Bool) (arities : List ℕ) (unique : Bool) (met : List Bool) (r : Bool) : Type 0 where
-  pub answer : (places spot : ℕ) (scope checks : List ℕ) → fits places spot w ≡ true → Marks 64 marks scope → Marks 256 met checks
+  pub answer : (places spot : ℕ) (scope checks : List ℕ) → fits places spot w ≡ true → Marks variables marks scope → Marks checkNumbers met checks
       → r ≡ keepsRule arities unique scope checks (tagOf w) (nOf w) (kOf w)
 
 -- terms outside patterns, all in one scope
 pub record Keeps (l : List ℕ) (at owed : ℕ) (marks : List Bool) (arities : List ℕ) (unique : Bool) (before after : List Bool) (r : Gone) : Type 0 where
-  pub answer : (ts : Terms) (scope checks : List ℕ) → Stands l at owed ts → Marks 64 marks scope → Marks 256 before checks
-      → Agrees (at + length (wordsOf ts)) (λ scope′ checks′. Marks 256 after checks′) (keepsAll arities unique scope ts at checks) r
+  pub answer : (ts : Terms) (scope checks : List ℕ) → Stands l at owed ts → Marks variables marks scope → Marks checkNumbers before checks
+      → Agrees (at + length (wordsOf ts)) (λ scope′ checks′. Marks checkNumbers after checks′) (keepsAll arities unique scope ts at checks) r
   pub onward : Onward at r
 
 -- terms in one scope, then terms in another
 pub record KeepsBoth (l : List ℕ) (at first second : ℕ) (inner outer : List Bool) (arities : List ℕ) (unique : Bool) (before after : List Bool) (r : Gone) : Type 0 where
-  pub answer : (ts us : Terms) (scope scope′ checks : List ℕ) → Stands l at first ts → Stands l (at + length (wordsOf ts)) second us → Marks 64 inner scope → Marks 64 outer scope′ → Marks 256 before checks
-      → Agrees (at + length (wordsOf ts) + length (wordsOf us)) (λ scope″ checks″. Marks 256 after checks″)
+  pub answer : (ts us : Terms) (scope scope′ checks : List ℕ) → Stands l at first ts → Stands l (at + length (wordsOf ts)) second us → Marks variables inner scope → Marks variables outer scope′ → Marks checkNumbers before checks
+      → Agrees (at + length (wordsOf ts) + length (wordsOf us)) (λ scope″ checks″. Marks checkNumbers after checks″)
       (andThen (keepsAll arities unique scope ts at checks) (λ at′ scope″ checks′. keepsAll arities unique scope′ us at′ checks′)) r
   pub onward : Onward at r

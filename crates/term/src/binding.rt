@@ -16,7 +16,7 @@ ghost use mathlib.Core.List.{List, _∷_};
 ghost use Prim.Native.Nat.{ℕ};
 ghost use Rattle.term.specs.Words.{tagOf, kOf};
 ghost use Rattle.term.specs.Binding.{names, checksAfter};
-ghost use Rattle.term.specs.Walking.{Marks, Binds, Rules, Keeps, KeepsBoth};
+ghost use Rattle.term.specs.Walking.{Marks, Binds, Rules, Keeps, KeepsBoth, variables, checkNumbers};
 
 // How many variables and how many check numbers there are.
 pub const VARIABLES: usize = 64;
@@ -31,7 +31,7 @@ pub enum Gone {
 
 // The scope with one more variable.
 pub fn with(scope: [bool; 64], v: usize) -> [bool; 64]
-    ensures { λ r. ⌜ ((s : List ℕ) → Marks 64 scope s → Marks 64 r (v ∷ s)) ⌝ }
+    ensures { λ r. ⌜ ((s : List ℕ) → Marks variables scope s → Marks variables r (v ∷ s)) ⌝ }
 {
     let mut inner = scope;
     if v < VARIABLES {
@@ -126,7 +126,7 @@ pub fn keeps_rule(
 
 // A check's number is met.
 pub fn meet(w: u32, checks: &mut [bool; 256])
-    ensures { λ _. ⌜ ((s : List ℕ) → Marks 256 (now (checks .entry)) s → Marks 256 (now (checks .exit)) (checksAfter (tagOf w) (kOf w) s)) ⌝ }
+    ensures { λ _. ⌜ ((s : List ℕ) → Marks checkNumbers (now (checks .entry)) s → Marks checkNumbers (now (checks .exit)) (checksAfter (tagOf w) (kOf w) s)) ⌝ }
 {
     if tag(w) == CHECK {
         let v = k(w) as usize;
@@ -182,15 +182,8 @@ pub fn keep(
         return keep_both(row, a, 2, owed - 1, inner, scope, arities, unique, checks);
     }
     meet(w, checks);
-    keep(
-        row,
-        at + 1,
-        owed - 1 + children(w),
-        scope,
-        arities,
-        unique,
-        checks,
-    )
+    let more = owed - 1 + children(w);
+    keep(row, at + 1, more, scope, arities, unique, checks)
 }
 
 // Goes through so many terms in an inner scope, then through so many in the outer one.

@@ -11,7 +11,7 @@ ghost use Prim.Native.Nat.{_≤_};
 ghost use lib.ListN.{length};
 ghost use Rattle.lists.specs.Lists.{upTo};
 ghost use Rattle.term.specs.Module.{checkModule};
-ghost use Rattle.term.specs.Walking.{Marks};
+ghost use Rattle.term.specs.Walking.{Marks, variables};
 ghost use Rattle.term.specs.Checking.{ReadFunctions, KeepsFunctions, badOf};
 
 // The most words that a module has.
@@ -30,8 +30,8 @@ pub enum Functions {
 }
 
 // The scope of a function's parameters: variables 0, 1, .. below their count.
-pub fn parameters(count: usize) -> [bool; 64]
-    ensures { λ r. ⌜ Marks 64 r (upTo count) ⌝ }
+fn parameters(count: usize) -> [bool; 64]
+    ensures { λ r. ⌜ Marks variables r (upTo count) ⌝ }
 {
     let mut scope = [false; 64];
     let mut i = 0;
@@ -70,7 +70,7 @@ pub fn read_functions(row: &[u32], counts: &mut [u32]) -> Functions
 }
 
 // Goes through the functions of a module for the rules.
-pub fn keep_functions(row: &[u32], arities: &[u32]) -> Checked
+fn keep_functions(row: &[u32], arities: &[u32]) -> Checked
     ensures { λ r. ⌜ KeepsFunctions (now (row .entry)) (now (arities .entry)) r ⌝ }
 {
     let mut checks = [false; 256];

@@ -19,7 +19,7 @@ ghost use mathlib.Core.Bool.{_&&_};
 ghost use lib.Dec.{leb};
 ghost use Rattle.lists.specs.Lists.{member};
 ghost use Rattle.term.specs.Table.{rowOf, tagsAt, kLimit, fits, ownSpot};
-ghost use Rattle.term.specs.Reading.{Reads, RunsOf};
+ghost use Rattle.term.specs.Reading.{Reads, RunsOf, oneRun};
 
 // The spots where a term stands.
 pub const FUNCTION_SPOT: usize = 0;
@@ -126,6 +126,21 @@ pub fn own_spot(spot: usize, tag: u32) -> usize
     VALUE
 }
 
+// One run alone.
+pub fn one_run(spot: usize, times: usize) -> Spots
+    ensures { λ r. ⌜ r ≡ oneRun spot times ⌝ }
+{
+    Spots {
+        first: spot,
+        firsts: times,
+        second: EXPRESSION,
+        seconds: 0,
+        third: EXPRESSION,
+        thirds: 0,
+    }
+}
+
+// The spots of the children of a word that stands at a spot.
 pub fn runs(spot: usize, w: u32) -> Spots
     ensures { λ r. ⌜ RunsOf spot w r ⌝ }
 {
@@ -153,33 +168,12 @@ pub fn runs(spot: usize, w: u32) -> Spots
         };
     }
     if kind == OF_RECEIVE {
-        return Spots {
-            first: CLAUSE_SPOT,
-            firsts: times,
-            second: EXPRESSION,
-            seconds: 0,
-            third: EXPRESSION,
-            thirds: 0,
-        };
+        return one_run(CLAUSE_SPOT, times);
     }
     if kind == BODY {
-        return Spots {
-            first: EXPRESSION,
-            firsts: 1,
-            second: EXPRESSION,
-            seconds: 0,
-            third: EXPRESSION,
-            thirds: 0,
-        };
+        return one_run(EXPRESSION, 1);
     }
-    Spots {
-        first: own_spot(spot, t),
-        firsts: times,
-        second: EXPRESSION,
-        seconds: 0,
-        third: EXPRESSION,
-        thirds: 0,
-    }
+    one_run(own_spot(spot, t), times)
 }
 
 // Where reading ends, or the first word at which it fails.

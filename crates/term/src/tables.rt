@@ -16,26 +16,29 @@ const LEAST: [u32; 19] = [0, 0, 0, 0, 0, 0, 2, 0, 2, 0, 1, 2, 1, 0, 2, 0, 0, 3, 
 
 const GREATEST: [u32; 19] = [0, 0, 0, 0, 0, 0, 2, 8, 2, 8, 8, 2, 8, 8, 2, 0, 0, 3, 8];
 
+// Any k: only the rules know how many functions there are.
+const ANY: u32 = 65536;
+
 const LIMIT: [u32; 19] = [
-    0,
-    64,
-    256,
-    1,
-    16,
-    1,
-    1,
-    1,
-    9,
-    65536,
-    1,
-    64,
-    1,
-    65536,
-    1,
-    1,
-    256,
-    1,
-    1,
+    0, // no tag
+    64, // variable
+    256, // atom
+    1, // integer
+    16, // pid
+    1, // nil
+    1, // cons
+    1, // tuple
+    9, // call
+    ANY, // apply
+    1, // case
+    64, // let
+    1, // receive
+    ANY, // spawn
+    1, // send
+    1, // self
+    256, // check
+    1, // clause
+    1, // function
 ];
 
 // What stands below a word: n children of its own kind; one expression; pattern, guard and body; a subject and n clauses; n clauses.

@@ -1,3 +1,4 @@
+-- `term::binding::bind` meets its contract.
 use borrow.Author.Needs.{needs}
 use Rattle.term.proofs.BindLaws.{bind-none, bind-past, bind-short, bind-integer, bind-node, bind-out, bind-again, bind-new}
 use Prim.Native.Nat.{ℕ, _<_, _-_}

@@ -1,3 +1,4 @@
+-- `term::binding::keep` and `term::binding::keep_both` meet their contracts.
 use borrow.Author.Needs.{needs}
 use Rattle.term.proofs.WalkLaws.{keep-none, keep-past, keep-short, keep-integer, keep-broken, keep-plain, let-broke, let-done, clause-broke, clause-done, both-broke, both-done, onward-past}
 use Prim.Native.Nat.{ℕ, _<_, _-_, _+_, _*_}
@@ -146,17 +147,17 @@ keep-returns-9 t c = search clause-done fits 4000
 keep-meet-requires : (t : ℕ) → keep-lts.Need-meet-requires (calls t) (keep-at t) keep.Post
 keep-meet-requires t c κs = search needs
 
-keep-add-keep-3 : (t : ℕ) → keep-lts.Need-add-keep-3 (calls t) (keep-at t) keep.Post
-keep-add-keep-3 t c = search needs
-
-keep-sub-keep-2 : (t : ℕ) → keep-lts.Need-sub-keep-2 (calls t) (keep-at t) keep.Post
-keep-sub-keep-2 t c = search needs
+keep-sub-more : (t : ℕ) → keep-lts.Need-sub-more (calls t) (keep-at t) keep.Post
+keep-sub-more t c = search needs
 
 keep-children-requires : (t : ℕ) → keep-lts.Need-children-requires (calls t) (keep-at t) keep.Post
 keep-children-requires t c κs = search needs
 
-keep-add-keep-4 : (t : ℕ) → keep-lts.Need-add-keep-4 (calls t) (keep-at t) keep.Post
-keep-add-keep-4 t c = search needs
+keep-add-more : (t : ℕ) → keep-lts.Need-add-more (calls t) (keep-at t) keep.Post
+keep-add-more t c = search needs
+
+keep-add-keep-3 : (t : ℕ) → keep-lts.Need-add-keep-3 (calls t) (keep-at t) keep.Post
+keep-add-keep-3 t c = search needs
 
 keep-keep-requires-3 : (t : ℕ) → keep-lts.Need-keep-requires-3 (calls t) (keep-at t) keep.Post
 keep-keep-requires-3 t c κs = search needs
@@ -232,10 +233,10 @@ pub +keep+keep-both-spec : {M : Type 1} → statement M
     (keep-keep-both-requires-2 t)
     (keep-returns-9 t)
     (keep-meet-requires t)
-    (keep-add-keep-3 t)
-    (keep-sub-keep-2 t)
+    (keep-sub-more t)
     (keep-children-requires t)
-    (keep-add-keep-4 t)
+    (keep-add-more t)
+    (keep-add-keep-3 t)
     (keep-keep-requires-3 t)
     (keep-returns-10 t))
     λ t. keep-both-lts.spec

@@ -1,13 +1,8 @@
+-- `term::binding::keeps_rule` meets its contract.
 use borrow.Author.Needs.{needs}
 use Rattle.term.proofs.MarkLaws.{rules-apply, rules-spawn, check-out, check-free, check-new, variable-out, variable-in, let-out, let-in, rules-other}
 use Rattle.term.proofs.binding.keeps_rule.Statement.{statement}
 use Rattle.term.proofs.binding.keeps_rule.Tie as tie
-use Rattle.term.proofs.binding.keeps_rule.Reads as reads
-use Rattle.term.proofs.binding.keeps_rule.Lts as lts
-use Rattle.term.proofs.binding.named.Reads as named-reads
-use Rattle.term.proofs.words.k.Reads as k-reads
-use Rattle.term.proofs.words.n.Reads as n-reads
-use Rattle.term.proofs.words.tag.Reads as tag-reads
 
 tag-requires : tie.Need-tag-requires
 tag-requires c κs = search needs

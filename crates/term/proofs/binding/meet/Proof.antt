@@ -1,11 +1,8 @@
+-- `term::binding::meet` meets its contract.
 use borrow.Author.Needs.{needs}
 use Rattle.term.proofs.MarkLaws.{meet-one, meet-out, meet-none}
 use Rattle.term.proofs.binding.meet.Statement.{statement}
 use Rattle.term.proofs.binding.meet.Tie as tie
-use Rattle.term.proofs.binding.meet.Reads as reads
-use Rattle.term.proofs.binding.meet.Lts as lts
-use Rattle.term.proofs.words.k.Reads as k-reads
-use Rattle.term.proofs.words.tag.Reads as tag-reads
 
 tag-requires : tie.Need-tag-requires
 tag-requires c κs = search needs

@@ -1,9 +1,8 @@
+-- `term::binding::named` meets its contract.
 use borrow.Author.Needs.{needs}
 use Rattle.term.proofs.MarkLaws.{no-function, some-function}
 use Rattle.term.proofs.binding.named.Statement.{statement}
 use Rattle.term.proofs.binding.named.Tie as tie
-use Rattle.term.proofs.binding.named.Reads as reads
-use Rattle.term.proofs.binding.named.Lts as lts
 
 returns : tie.Need-returns
 returns c = search no-function

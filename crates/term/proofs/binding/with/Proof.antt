@@ -1,9 +1,8 @@
+-- `term::binding::with` meets its contract.
 use borrow.Author.Needs.{needs}
 use Rattle.term.proofs.MarkLaws.{mark-more, mark-out}
 use Rattle.term.proofs.binding.with.Statement.{statement}
 use Rattle.term.proofs.binding.with.Tie as tie
-use Rattle.term.proofs.binding.with.Reads as reads
-use Rattle.term.proofs.binding.with.Lts as lts
 
 array-write-inner : tie.Need-array-write-inner
 array-write-inner c = search needs

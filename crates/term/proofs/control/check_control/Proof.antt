@@ -1,11 +1,8 @@
+-- `term::control::check_control` meets its contract.
 use borrow.Author.Needs.{needs}
 use Rattle.term.proofs.ControlLaws.{control-fails, control-more, control-breaks, control-good}
 use Rattle.term.proofs.control.check_control.Statement.{statement}
 use Rattle.term.proofs.control.check_control.Tie as tie
-use Rattle.term.proofs.control.check_control.Reads as reads
-use Rattle.term.proofs.control.check_control.Lts as lts
-use Rattle.term.proofs.binding.keep.Reads as keep-reads
-use Rattle.term.proofs.shape.read.Reads as read-reads
 
 read-requires : tie.Need-read-requires
 read-requires c κs = search needs

@@ -1,13 +1,10 @@
+-- `term::module::check_module` meets its contract.
 use mathlib.Core.Path.{sym}
 use lib.Seq.{length-take-le}
 use borrow.Author.Needs.{needs}
 use Rattle.term.proofs.CheckLaws.{module-long, module-fails, module-first, module-rules}
 use Rattle.term.proofs.module.check_module.Statement.{statement}
 use Rattle.term.proofs.module.check_module.Tie as tie
-use Rattle.term.proofs.module.check_module.Reads as reads
-use Rattle.term.proofs.module.check_module.Lts as lts
-use Rattle.term.proofs.module.keep_functions.Reads as keep-functions-reads
-use Rattle.term.proofs.module.read_functions.Reads as read-functions-reads
 
 returns : tie.Need-returns
 returns c = search module-long

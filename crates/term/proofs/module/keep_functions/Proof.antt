@@ -1,4 +1,5 @@
-use Prim.Native.Nat.{_≤_, _-_}
+-- `term::module::keep_functions` meets its contract.
+use Prim.Native.Nat.{_-_}
 use native.Mathlib.Omega.{arith}
 use lib.ListN.{length}
 use borrow.Author.Needs.{needs}
@@ -6,11 +7,6 @@ use Rattle.term.proofs.RuleLaws.{Going, going-start, going-done, going-
 use Rattle.term.proofs.WalkLaws.{onward-past}
 use Rattle.term.proofs.module.keep_functions.Statement.{statement}
 use Rattle.term.proofs.module.keep_functions.Tie as tie
-use Rattle.term.proofs.module.keep_functions.Reads as reads
-use Rattle.term.proofs.module.keep_functions.Lts as lts
-use Rattle.term.proofs.binding.keep.Reads as keep-reads
-use Rattle.term.proofs.module.parameters.Reads as parameters-reads
-use Rattle.term.proofs.words.n.Reads as n-reads
 
 abbrev Inv-loop : tie.InvT-loop
 Inv-loop row arities checks₀ at₀ checks at = Going row arities at checks

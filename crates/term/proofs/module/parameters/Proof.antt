@@ -1,24 +1,23 @@
+-- `term::module::parameters` meets its contract.
 use Prim.Native.Nat.{_≤_, _-_}
 use native.Mathlib.Omega.{arith}
 use borrow.Author.Needs.{needs}
 use Rattle.lists.specs.Lists.{upTo}
-use Rattle.term.specs.Walking.{Marks}
+use Rattle.term.specs.Walking.{Marks, variables}
 use Rattle.term.proofs.ControlLaws.{no-marks}
 use Rattle.term.proofs.ModuleLaws.{marks-full, marks-all, marks-next}
 use Rattle.term.proofs.module.parameters.Statement.{statement}
 use Rattle.term.proofs.module.parameters.Tie as tie
-use Rattle.term.proofs.module.parameters.Reads as reads
-use Rattle.term.proofs.module.parameters.Lts as lts
 
 abbrev Inv-loop : tie.InvT-loop
-Inv-loop count scope₀ i₀ scope i = (i ≤ count) × Marks 64 scope (upTo i)
+Inv-loop count scope₀ i₀ scope i = (i ≤ count) × Marks variables scope (upTo i)
 
 abbrev μ-loop : tie.MeasureT-loop
 μ-loop count scope₀ i₀ scope i = count - i
 
 loop-holds : tie.Need-loop-holds Inv-loop μ-loop
 unfolding upTo
-loop-holds c = (omega arith, no-marks 64)
+loop-holds c = (omega arith, no-marks variables)
 
 returns : tie.Need-returns Inv-loop μ-loop
 returns c = search marks-full

@@ -1,3 +1,4 @@
+-- `term::module::read_functions` meets its contract.
 use Prim.Native.Nat.{_≤_, _<_, _-_}
 use mathlib.Core.Path.{_≡_, refl}
 use native.Mathlib.Omega.{arith}
@@ -7,10 +8,6 @@ use Rattle.term.proofs.FunctionLaws.{SoFar, so-far-start, so-far-done, 
 use Rattle.term.proofs.ReadingLaws.{further-ends}
 use Rattle.term.proofs.module.read_functions.Statement.{statement}
 use Rattle.term.proofs.module.read_functions.Tie as tie
-use Rattle.term.proofs.module.read_functions.Reads as reads
-use Rattle.term.proofs.module.read_functions.Lts as lts
-use Rattle.term.proofs.shape.read.Reads as read-reads
-use Rattle.term.proofs.words.n.Reads as n-reads
 
 abbrev Inv-loop : tie.InvT-loop
 Inv-loop row counts₀ at₀ number₀ counts at number = (length counts ≡ length counts₀) × (number ≤ length counts) × SoFar row counts at number

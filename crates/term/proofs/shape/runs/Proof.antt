@@ -1,13 +1,8 @@
+-- `term::shape::runs` meets its contract.
 use borrow.Author.Needs.{needs}
 use Rattle.term.proofs.SpotLaws.{runs-clause, runs-case, runs-receive, runs-body, runs-alike}
 use Rattle.term.proofs.shape.runs.Statement.{statement}
 use Rattle.term.proofs.shape.runs.Tie as tie
-use Rattle.term.proofs.shape.runs.Reads as reads
-use Rattle.term.proofs.shape.runs.Lts as lts
-use Rattle.term.proofs.shape.own_spot.Reads as own-spot-reads
-use Rattle.term.proofs.tables.below.Reads as below-reads
-use Rattle.term.proofs.words.n.Reads as n-reads
-use Rattle.term.proofs.words.tag.Reads as tag-reads
 
 n-requires : tie.Need-n-requires
 n-requires c κs = search needs
@@ -30,14 +25,23 @@ returns c = search runs-clause
 returns-2 : tie.Need-returns-2
 returns-2 c = search runs-case
 
+one-run-requires : tie.Need-one-run-requires
+one-run-requires c κs = search needs
+
 returns-3 : tie.Need-returns-3
 returns-3 c = search runs-receive
+
+one-run-requires-2 : tie.Need-one-run-requires-2
+one-run-requires-2 c κs = search needs
 
 returns-4 : tie.Need-returns-4
 returns-4 c = search runs-body
 
 own-spot-requires : tie.Need-own-spot-requires
 own-spot-requires c κs = search needs
+
+one-run-requires-3 : tie.Need-one-run-requires-3
+one-run-requires-3 c κs = search needs
 
 returns-5 : tie.Need-returns-5
 returns-5 c = search runs-alike
@@ -53,7 +57,10 @@ runs-spec =
     below-requires
     returns
     returns-2
+    one-run-requires
     returns-3
+    one-run-requires-2
     returns-4
     own-spot-requires
+    one-run-requires-3
     returns-5)
