@@ -1,1 +1,5 @@
+pub mod WordLaws
+pub mod TreeLaws
+pub mod ReadLaws
 pub mod Fit
+pub mod ShapeLaws
