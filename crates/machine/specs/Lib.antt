@@ -6,6 +6,7 @@ pub mod Guard
 pub mod Clauses
 pub mod Place
 pub mod Work
+pub mod Answers
 pub mod Opened
 pub mod Laws
 pub mod Cases
