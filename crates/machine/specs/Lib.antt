@@ -7,6 +7,7 @@ pub mod Clauses
 pub mod Place
 pub mod Work
 pub mod Answers
+pub mod Rows
 pub mod Opened
 pub mod Laws
 pub mod Cases

@@ -1,2 +1,7 @@
 // One process step on rows of words: what a control is about to do, and what it becomes.
+pub mod copy;
 pub mod integer;
+pub mod matching;
+pub mod place;
+pub mod same;
+pub mod words;

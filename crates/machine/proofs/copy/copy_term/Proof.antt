@@ -1,0 +1,18 @@
+use borrow.Author.Needs.{needs}
+use Rattle.machine.proofs.copy.copy_term.Statement.{statement}
+use Rattle.machine.proofs.copy.copy_term.Tie as tie
+use Rattle.machine.proofs.copy.copy_term.Reads as reads
+use Rattle.machine.proofs.copy.copy_term.Lts as lts
+use Rattle.machine.proofs.copy.copy_words.Reads as copy-words-reads
+use Rattle.machine.proofs.words.skip.Reads as skip-reads
+use native.Mathlib.Omega.{arith}
+use Rattle.machine.proofs.RowWrite.{term-past, term-written}
+
+pub copy-term-spec : {M : Type 1} → statement M
+copy-term-spec = tie.close (tie.spec
+    (λ c. search term-past)
+    (λ c κs. search needs)
+    (λ c. search needs)
+    (λ c κs. search needs)
+    (λ c. search needs)
+    (λ c. search term-written))
