@@ -1,19 +1,10 @@
 -- Values, and when two of them are equal. Assumes nothing: these are definitions.
 use Prim.Native.Nat.{ℕ}
 use mathlib.Core.Bool.{Bool, true, false, cond, _&&_}
-use lib.Dec.{eqb, leb}
-use Rattle.term.specs.Words.{tagAtom, tagPid, tagTuple}
+use lib.Dec.{eqb}
+use Rattle.term.specs.Words.{tagAtom, tagPid}
 use Rattle.term.specs.Tree.{Term, Terms, int, node, end, _then_}
-
--- "Values use tags 2 to 7."
-unfoldable mutual
-  pub isValue : Term → Bool
-  isValue (int x) = true
-  isValue (node tag n k ts) = leb tagAtom tag && leb tag tagTuple && areValues ts
-
-  pub areValues : Terms → Bool
-  areValues end = true
-  areValues (t then ts) = isValue t && areValues ts
+unfoldable pub use Rattle.term.specs.Value.{isValue, areValues}
 
 -- the same term throughout
 unfoldable mutual

@@ -2,4 +2,8 @@ pub mod WordLaws
 pub mod TreeLaws
 pub mod ReadLaws
 pub mod Fit
+pub mod TableLaws
+pub mod RowLaws
+pub mod SpotLaws
 pub mod ShapeLaws
+pub mod ReadingLaws

@@ -3,7 +3,12 @@ pub mod Table
 pub mod Tree
 pub mod Read
 pub mod Shape
+pub mod Fit
 pub mod Binding
 pub mod Module
 pub mod Control
+pub mod Value
+pub mod Kinds
+pub mod Rows
+pub mod Reading
 pub mod Cases

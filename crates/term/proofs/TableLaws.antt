@@ -1,0 +1,71 @@
+-- The code's tables hold what the table of the 18 tags says: one test computed over each column.
+use Prim.Native.Nat.{ℕ, zero, suc, _+_, _≤_, _<_}
+use mathlib.Core.Path.{_≡_, refl, sym, ap, _∙_}
+use mathlib.Core.Bool.{Bool, true, false, cond}
+use mathlib.Core.List.{List, [], _∷_, map}
+use native.Mathlib.Omega.{arith}
+use lib.Dec.{eqb}
+use lib.ListN.{length, getD, List·getD-map, List·getD-eq-default}
+use Rattle.lists.proofs.Tests.{eqb-of, eqb-apart, cond-true, cond-false}
+use Rattle.term.specs.Words.{tagOf, nOf, tagInteger}
+use Rattle.term.specs.Table.{Children, alike, body, ofClause, ofCase, ofReceive, Row, noRow, table, rowOf, childCount, arity}
+use Rattle.term.specs.Kinds.{kindOf, ChildCount}
+
+-- a column of the table, at any row
+pub at-row : (column : Row → ℕ) (tag : ℕ) → column (rowOf tag) ≡ getD (map column table) tag (column noRow)
+unfolding rowOf
+at-row column tag = sym (List·getD-map column table tag noRow)
+
+-- past the rows stands no row
+pub past-rows : (tag : ℕ) → 19 ≤ tag → noRow ≡ rowOf tag
+unfolding rowOf table
+past-rows tag h = sym (List·getD-eq-default table noRow h)
+
+-- how many children a word has, by the number of what stands below it
+arity-body : (c : Children) (n : ℕ) → kindOf c ≡ 1 → childCount c n ≡ 1
+unfolding kindOf childCount
+arity-body alike n e = absurd (omega arith)
+arity-body body n e = refl
+arity-body ofClause n e = absurd (omega arith)
+arity-body ofCase n e = absurd (omega arith)
+arity-body ofReceive n e = absurd (omega arith)
+
+arity-case : (c : Children) (n : ℕ) → kindOf c ≡ 3 → childCount c n ≡ suc n
+unfolding kindOf childCount
+arity-case alike n e = absurd (omega arith)
+arity-case body n e = absurd (omega arith)
+arity-case ofClause n e = absurd (omega arith)
+arity-case ofCase n e = refl
+arity-case ofReceive n e = absurd (omega arith)
+
+arity-other : (c : Children) (n : ℕ) → ¬ (kindOf c ≡ 1) → ¬ (kindOf c ≡ 3) → childCount c n ≡ n
+unfolding kindOf childCount
+arity-other alike n d e = refl
+arity-other body n d e = absurd (d refl)
+arity-other ofClause n d e = refl
+arity-other ofCase n d e = absurd (e refl)
+arity-other ofReceive n d e = refl
+
+module _ (w t g : ℕ) (et : t ≡ tagOf w) (eg : g ≡ kindOf (rowOf t .children)) where
+  pub count-body : g ≡ 1 → ChildCount w 1
+  unfolding arity
+  count-body e = record { is = sym (arity-body (rowOf (tagOf w) .children) (nOf w) (rw et at (sym eg ∙ e))); few = omega arith }
+
+  pub count-case : (n : ℕ) → n ≡ nOf w → g ≡ 3 → ChildCount w (n + 1)
+  unfolding arity
+  count-case n en e = record { is = omega (arith, en, arity-case (rowOf (tagOf w) .children) (nOf w) (rw et at (sym eg ∙ e))); few = omega arith }
+
+  pub count-other : (n : ℕ) → n ≡ nOf w → ¬ (g ≡ 1) → ¬ (g ≡ 3) → ChildCount w n
+  unfolding arity
+  count-other n en d e =
+      record {
+        is = omega (arith, en, arity-other (rowOf (tagOf w) .children) (nOf w) (λ i. d (eg ∙ rw et i)) (λ i. e (eg ∙ rw et i)));
+        few = omega arith;
+      }
+
+-- how many words a head has
+pub head-two : (w t : ℕ) → t ≡ tagOf w → t ≡ tagInteger → _≡_ {A = ℕ} 2 (cond (eqb (tagOf w) tagInteger) 2 1)
+head-two w t et e = sym (cond-true 2 1 (eqb-of (tagOf w) tagInteger (sym et ∙ e)))
+
+pub head-one : (w t : ℕ) → t ≡ tagOf w → ¬ (t ≡ tagInteger) → _≡_ {A = ℕ} 1 (cond (eqb (tagOf w) tagInteger) 2 1)
+head-one w t et d = sym (cond-false 2 1 (eqb-apart (tagOf w) tagInteger (λ e. d (et ∙ e))))

@@ -1,0 +1,22 @@
+use borrow.Author.Needs.{needs}
+use Rattle.term.proofs.SpotLaws.{limit-pid, limit-other}
+use Rattle.term.proofs.shape.k_limit.Statement.{statement}
+use Rattle.term.proofs.shape.k_limit.Tie as tie
+use Rattle.term.proofs.shape.k_limit.Reads as reads
+use Rattle.term.proofs.shape.k_limit.Lts as lts
+use Rattle.term.proofs.tables.limit.Reads as limit-reads
+
+cast-if1 : tie.Need-cast-if1
+cast-if1 c = search needs
+
+returns : tie.Need-returns
+returns c = search limit-pid
+
+limit-requires : tie.Need-limit-requires
+limit-requires c κs = search needs
+
+returns-2 : tie.Need-returns-2
+returns-2 c = search limit-other
+
+pub k-limit-spec : {M : Type 1} → statement M
+k-limit-spec = tie.close (tie.spec cast-if1 returns limit-requires returns-2)

@@ -1,0 +1,57 @@
+use borrow.Author.Needs.{needs}
+use Rattle.term.proofs.SpotLaws.{fits-not, fits-n, fits-k}
+use Rattle.term.proofs.shape.may_stand.Statement.{statement}
+use Rattle.term.proofs.shape.may_stand.Tie as tie
+use Rattle.term.proofs.shape.may_stand.Reads as reads
+use Rattle.term.proofs.shape.may_stand.Lts as lts
+use Rattle.term.proofs.shape.k_limit.Reads as k-limit-reads
+use Rattle.term.proofs.shape.n_fits.Reads as n-fits-reads
+use Rattle.term.proofs.shape.stands.Reads as stands-reads
+use Rattle.term.proofs.words.k.Reads as k-reads
+use Rattle.term.proofs.words.n.Reads as n-reads
+use Rattle.term.proofs.words.tag.Reads as tag-reads
+
+tag-requires : tie.Need-tag-requires
+tag-requires c κs = search needs
+
+cast-t : tie.Need-cast-t
+cast-t c = search needs
+
+stands-requires : tie.Need-stands-requires
+stands-requires c κs = search needs
+
+returns : tie.Need-returns
+returns c = search fits-not
+
+n-requires : tie.Need-n-requires
+n-requires c κs = search needs
+
+n-fits-requires : tie.Need-n-fits-requires
+n-fits-requires c κs = search needs
+
+returns-2 : tie.Need-returns-2
+returns-2 c = search fits-n
+
+k-requires : tie.Need-k-requires
+k-requires c κs = search needs
+
+k-limit-requires : tie.Need-k-limit-requires
+k-limit-requires c κs = search needs
+
+returns-3 : tie.Need-returns-3
+returns-3 c = search fits-k
+
+pub may-stand-spec : {M : Type 1} → statement M
+may-stand-spec =
+    tie.close
+    (tie.spec
+    tag-requires
+    cast-t
+    stands-requires
+    returns
+    n-requires
+    n-fits-requires
+    returns-2
+    k-requires
+    k-limit-requires
+    returns-3)

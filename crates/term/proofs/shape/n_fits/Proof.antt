@@ -1,0 +1,23 @@
+use borrow.Author.Needs.{needs}
+use Rattle.term.proofs.SpotLaws.{n-least, n-greatest}
+use Rattle.term.proofs.shape.n_fits.Statement.{statement}
+use Rattle.term.proofs.shape.n_fits.Tie as tie
+use Rattle.term.proofs.shape.n_fits.Reads as reads
+use Rattle.term.proofs.shape.n_fits.Lts as lts
+use Rattle.term.proofs.tables.greatest.Reads as greatest-reads
+use Rattle.term.proofs.tables.least.Reads as least-reads
+
+least-requires : tie.Need-least-requires
+least-requires c κs = search needs
+
+returns : tie.Need-returns
+returns c = search n-least
+
+greatest-requires : tie.Need-greatest-requires
+greatest-requires c κs = search needs
+
+returns-2 : tie.Need-returns-2
+returns-2 c = search n-greatest
+
+pub n-fits-spec : {M : Type 1} → statement M
+n-fits-spec = tie.close (tie.spec least-requires returns greatest-requires returns-2)

@@ -1,0 +1,59 @@
+use borrow.Author.Needs.{needs}
+use Rattle.term.proofs.SpotLaws.{runs-clause, runs-case, runs-receive, runs-body, runs-alike}
+use Rattle.term.proofs.shape.runs.Statement.{statement}
+use Rattle.term.proofs.shape.runs.Tie as tie
+use Rattle.term.proofs.shape.runs.Reads as reads
+use Rattle.term.proofs.shape.runs.Lts as lts
+use Rattle.term.proofs.shape.own_spot.Reads as own-spot-reads
+use Rattle.term.proofs.tables.below.Reads as below-reads
+use Rattle.term.proofs.words.n.Reads as n-reads
+use Rattle.term.proofs.words.tag.Reads as tag-reads
+
+n-requires : tie.Need-n-requires
+n-requires c κs = search needs
+
+cast-times : tie.Need-cast-times
+cast-times c = search needs
+
+tag-requires : tie.Need-tag-requires
+tag-requires c κs = search needs
+
+cast-below : tie.Need-cast-below
+cast-below c = search needs
+
+below-requires : tie.Need-below-requires
+below-requires c κs = search needs
+
+returns : tie.Need-returns
+returns c = search runs-clause
+
+returns-2 : tie.Need-returns-2
+returns-2 c = search runs-case
+
+returns-3 : tie.Need-returns-3
+returns-3 c = search runs-receive
+
+returns-4 : tie.Need-returns-4
+returns-4 c = search runs-body
+
+own-spot-requires : tie.Need-own-spot-requires
+own-spot-requires c κs = search needs
+
+returns-5 : tie.Need-returns-5
+returns-5 c = search runs-alike
+
+pub runs-spec : {M : Type 1} → statement M
+runs-spec =
+    tie.close
+    (tie.spec
+    n-requires
+    cast-times
+    tag-requires
+    cast-below
+    below-requires
+    returns
+    returns-2
+    returns-3
+    returns-4
+    own-spot-requires
+    returns-5)

@@ -1,0 +1,22 @@
+use borrow.Author.Needs.{needs}
+use Rattle.term.proofs.TableLaws.{head-two, head-one}
+use Rattle.term.proofs.tables.head_words.Statement.{statement}
+use Rattle.term.proofs.tables.head_words.Tie as tie
+use Rattle.term.proofs.tables.head_words.Reads as reads
+use Rattle.term.proofs.tables.head_words.Lts as lts
+use Rattle.term.proofs.words.tag.Reads as tag-reads
+
+-- src/tables.rt:83:8
+tag-requires : tie.Need-tag-requires
+tag-requires c κs = search needs
+
+-- src/tables.rt:80:1
+returns : tie.Need-returns
+returns c = search head-two
+
+-- src/tables.rt:80:1
+returns-2 : tie.Need-returns-2
+returns-2 c = search head-one
+
+pub head-words-spec : {M : Type 1} → statement M
+head-words-spec = tie.close (tie.spec tag-requires returns returns-2)

@@ -1,0 +1,66 @@
+// Words: the tags by their names, the parts of a word, and a word of its parts.
+ghost use mathlib.Core.Path.{_≡_};
+ghost use Prim.Native.Nat.{_<_};
+ghost use Rattle.term.specs.Words.{word, tagOf, nOf, kOf};
+
+pub const VARIABLE: u32 = 1;
+
+pub const ATOM: u32 = 2;
+
+pub const INTEGER: u32 = 3;
+
+pub const PID: u32 = 4;
+
+pub const NIL: u32 = 5;
+
+pub const CONS: u32 = 6;
+
+pub const TUPLE: u32 = 7;
+
+pub const CALL: u32 = 8;
+
+pub const APPLY: u32 = 9;
+
+pub const CASE: u32 = 10;
+
+pub const LET: u32 = 11;
+
+pub const RECEIVE: u32 = 12;
+
+pub const SPAWN: u32 = 13;
+
+pub const SEND: u32 = 14;
+
+pub const SELF: u32 = 15;
+
+pub const CHECK: u32 = 16;
+
+pub const CLAUSE: u32 = 17;
+
+pub const FUNCTION: u32 = 18;
+
+pub fn tag(w: u32) -> u32
+    ensures { λ r. ⌜ r ≡ tagOf w ⌝ }
+{
+    w / 16777216
+}
+
+pub fn n(w: u32) -> u32
+    ensures { λ r. ⌜ r ≡ nOf w ⌝ }
+{
+    w / 65536 % 256
+}
+
+pub fn k(w: u32) -> u32
+    ensures { λ r. ⌜ r ≡ kOf w ⌝ }
+{
+    w % 65536
+}
+
+// The word of parts that fit their places in it.
+pub fn word_of(tag: u32, n: u32, k: u32) -> u32
+    requires { ⌜ (tag < 256) × (n < 256) × (k < 65536) ⌝ }
+    ensures { λ r. ⌜ r ≡ word tag n k ⌝ }
+{
+    tag * 16777216 + n * 65536 + k
+}
