@@ -5,3 +5,5 @@ pub mod RowSame
 pub mod RowWrite
 pub mod RowMatch
 pub mod RowCopy
+pub mod RowOperand
+pub mod RowGuard

@@ -9,7 +9,7 @@ use native.Mathlib.Decide.{ℕ-discrete}
 use lib.Dec.{eqb}
 use lib.ListN.{length, drop, getD}
 use Rattle.lists.proofs.Tests.{eqb-of, eqb-apart, true-not-false}
-use Rattle.term.specs.Words.{word, tagOf, nOf, kOf, integerWord, tagInteger, tagVariable}
+use Rattle.term.specs.Words.{word, tagOf, nOf, kOf, integerWord, tagInteger, tagVariable, tagCons}
 use Rattle.term.specs.Table.{arity}
 use Rattle.term.specs.Tree.{Term, Terms, int, node, end, _then_, words, wordsOf, count, Head, Whole, WholeAll}
 use Rattle.term.proofs.WordLaws.{tag-word, k-word}
@@ -94,10 +94,10 @@ kept values env bindings b tag n k us h z = go (ℕ-discrete tag tagVariable)
     go (no d) = ap words (bind-other bindings tag n k us d)
     go (yes e) =
         let o = entry-none values (getD env k 0) (bindings k) (b k) (sym (entry-variable env tag n k (h .0 .n-fits) (h .0 .k-fits) e) ∙ z) in
-        let none-below = no-children tag n k us (h .0) e (h .1 e .0) in
+        let none-below = no-children tag n k us (h .0) e (h .1 .0 (omega (arith, e))) in
         ap words (bind-free bindings tag n k us e o) ∙ ap (λ (ws : List ℕ). word tag n k ∷ ws) (ap wordsOf none-below ∙ sym (ap (λ (vs : Terms). wordsOf (bindAll bindings vs)) none-below))
 
-plain-node : (tag n k : ℕ) (us : Terms) → Head tag n k (count us) × (tag ≡ tagVariable → (n ≡ 0) × (k < 64)) × PlainAll us → Plain (node tag n k us)
+plain-node : (tag n k : ℕ) (us : Terms) → Head tag n k (count us) × ((tag < tagCons → n ≡ 0) × (tag ≡ tagVariable → k < 64)) × PlainAll us → Plain (node tag n k us)
 unfolding Plain
 plain-node tag n k us h = h
 
@@ -139,7 +139,7 @@ module _ (src : List ℕ) (at p : ℕ) (values env : List ℕ) (to : ℕ) (o : L
         by-tag q w (yes t) =
             let ge : en ≡ getD env k 0 = w ∙ entry-variable env tag n k (h .0 .0 .n-fits) (h .0 .0 .k-fits) t in
             let v = entry-value values (getD env k 0) (bindings k) (bound k) (λ y. d (ge ∙ y)) in
-            let none-below = no-children tag n k us (h .0 .0) t (h .0 .1 t .0) in
+            let none-below = no-children tag n k us (h .0 .0) t (h .0 .1 .0 (omega (arith, t))) in
             let on : drop (at + 1) src ≡ wordsOf ts ++ rest = q .on ∙ ap (λ (x : Terms). wordsOf (x andAll ts) ++ rest) none-below in
             let st : Stands values (en - 1) (v .term) = subst (λ (i : ℕ). Stands values (i - 1) (v .term)) (sym ge) (v .stands) in
             subst (λ (ws : List ℕ). Wrote ws to o new r) (sym (more bindings (node tag n k us) ts ∙ ap (λ (x : Term). words x ++ wordsOf (bindAll bindings ts)) (bind-bound bindings tag n k us (v .term) t (v .is))))

@@ -14,11 +14,12 @@ use lib.Seq.{getD-set-same, getD-set-other}
 use Rattle.lists.proofs.Tests.{eqb-of, eqb-apart, eqb-true, eqb-false, cond-true, cond-false, true-or-false, true-not-false}
 use Rattle.term.specs.Words.{word, tagOf, nOf, kOf, tagInteger, tagVariable}
 use Rattle.term.specs.Table.{arity}
-use Rattle.term.specs.Tree.{Term, Terms, int, node, end, _then_, words, wordsOf, count, Head, Whole, WholeAll}
-use Rattle.term.proofs.TreeLaws.{_andAll_, words-all, whole-all}
+use Rattle.term.specs.Rows.{passed}
+use Rattle.term.specs.Tree.{Term, Terms, int, node, end, _then_, words, wordsOf, count, Head}
+use Rattle.term.proofs.TreeLaws.{_andAll_, words-all}
 use Rattle.machine.specs.Match.{Bindings, with, childrenOf, isInteger, match, matchAll}
-use Rattle.machine.specs.Rows.{Skipped, Stands, Plain, PlainAll, Entry, Bound, Matched, Matches}
-use Rattle.machine.proofs.RowTerms.{arity-other, NodeAt, node-at, integer-at, not-integer-at, some-words, past-term, one-skip}
+use Rattle.machine.specs.Rows.{Stands, Plain, PlainAll, Entry, Bound, Matched, Matches}
+use Rattle.machine.proofs.RowTerms.{arity-other, NodeAt, node-at, integer-at, not-integer-at, some-words, past-term, one-skip, plain-whole}
 
 -- ---- match, by what it looks at
 abbrev onward : Option Bindings → Terms → Terms → Option Bindings
@@ -162,10 +163,10 @@ module _ (p : List ℕ) (pa : ℕ) (v : List ℕ) (va m : ℕ) (env : List ℕ) 
       match-high h r (int x then ps) vs rest rest′ bindings hp hv sp sv ep ev l b = absurd (omega (arith, integer-at p pa x ps rest ep .tag-is))
       match-high h r (node tag n j us then ps) vs rest rest′ bindings hp hv sp sv ep ev l b =
           let o = node-at p pa m _ tag n j us ps rest (hp .0 .0) sp ep refl in
-          absurd (omega (arith, hp .0 .1 (sym (o .tag-is) ∙ sym eg ∙ var) .1, o .k-is))
+          absurd (omega (arith, hp .0 .1 .1 (sym (o .tag-is) ∙ sym eg ∙ var), o .k-is))
 
-      pub match-var : k < length env → (end′ : ℕ) (env′ : List ℕ) (r : Bool) → Skipped v va 1 end′ → Matches p (pa + 1) v end′ (m - 1) (set env k (va + 1)) env′ r → Matches p pa v va m env env′ r
-      unfolding Matches count PlainAll Plain wordsOf WholeAll _andAll_
+      pub match-var : k < length env → (end′ : ℕ) (env′ : List ℕ) (r : Bool) → end′ ≡ va + passed (drop va v) 1 → Matches p (pa + 1) v end′ (m - 1) (set env k (va + 1)) env′ r → Matches p pa v va m env env′ r
+      unfolding Matches count PlainAll Plain wordsOf _andAll_
       match-var h end′ env′ r sk ih end vs rest rest′ bindings hp hv sp sv ep ev l b = absurd (omega arith)
       match-var h end′ env′ r sk ih (int x then ps) vs rest rest′ bindings hp hv sp sv ep ev l b = absurd (omega (arith, integer-at p pa x ps rest ep .tag-is))
       match-var h end′ env′ r sk ih (node tag n j us then ps) end rest rest′ bindings hp hv sp sv ep ev l b = absurd (omega arith)
@@ -173,19 +174,19 @@ module _ (p : List ℕ) (pa : ℕ) (v : List ℕ) (va m : ℕ) (env : List ℕ) 
           let o = node-at p pa m _ tag n j us ps rest (hp .0 .0) sp ep refl in
           let tv : tag ≡ tagVariable = sym (o .tag-is) ∙ sym eg ∙ var in
           let kj : k ≡ j = ek ∙ o .k-is in
-          let none-below = no-children tag n j us (hp .0 .0) tv (hp .0 .1 tv .0) in
+          let none-below = no-children tag n j us (hp .0 .0) tv (hp .0 .1 .0 (omega (arith, tv))) in
           let on : drop (pa + 1) p ≡ wordsOf ps ++ rest = o .on ∙ ap (λ (x : Terms). wordsOf (x andAll ps) ++ rest) none-below in
           let a : drop va v ≡ words u ++ (wordsOf vs ++ rest′) = ev ∙ append-assoc (words u) (wordsOf vs) rest′ in
-          let d = one-skip v va end′ u (wordsOf vs ++ rest′) sk (hv .0) a in
+          let d = one-skip v va end′ u (wordsOf vs ++ rest′) sk (plain-whole u (hv .0)) a in
           let on′ : drop end′ v ≡ wordsOf vs ++ rest′ = ap (λ (i : ℕ). drop i v) d ∙ past-term v va u (wordsOf vs ++ rest′) a in
-          let bm = bound-more v env bindings k va u b h (record { whole = hv .0; rest = wordsOf vs ++ rest′; here = a }) in
+          let bm = bound-more v env bindings k va u b h (record { plain = hv .0; rest = wordsOf vs ++ rest′; here = a }) in
           let mm = ih ps vs rest rest′ (with k u bindings) (hp .1) (hv .1) (omega arith) (omega arith) on on′ (length-set env k (va + 1) ∙ l) bm in
           matched-is v env′ _ _ r (match-then (node tag n j us) ps u vs bindings ∙ ap (λ (x : Option Bindings). onward x ps vs) (match-variable tag n j us u bindings tv ∙ ap (λ (i : ℕ). some (with i u bindings)) (sym kj))) mm
 
     -- a head that is no variable
     module _ (no-var : ¬ (g ≡ tagVariable)) where
       pub match-differ : ¬ (getD p pa 0 ≡ getD v va 0) → Matches p pa v va m env env false
-      unfolding Matches Matched count PlainAll Plain WholeAll Whole
+      unfolding Matches Matched count PlainAll Plain
       match-differ d end vs rest rest′ bindings hp hv sp sv ep ev l b = absurd (omega arith)
       match-differ d (t then ps) end rest rest′ bindings hp hv sp sv ep ev l b = absurd (omega arith)
       match-differ d (int x then ps) (int y then vs) rest rest′ bindings hp hv sp sv ep ev l b = absurd (d (integer-at p pa x ps rest ep .head ∙ sym (integer-at v va y vs rest′ ev .head)))
@@ -209,13 +210,13 @@ module _ (p : List ℕ) (pa : ℕ) (v : List ℕ) (va m : ℕ) (env : List ℕ) 
           match-cut r short (node tag n k us then ps) vs rest rest′ bindings hp hv sp sv ep ev l b = absurd (not-integer-at p pa tag n k us ps rest g (hp .0 .0) ep eg int-tag)
 
           pub match-cut-value : (r : Bool) → length v - va < 2 → Matches p pa v va m env env r
-          unfolding Matches count WholeAll Whole
+          unfolding Matches count PlainAll Plain
           match-cut-value r short ps end rest rest′ bindings hp hv sp sv ep ev l b = absurd (omega arith)
           match-cut-value r short ps (int x then vs) rest rest′ bindings hp hv sp sv ep ev l b = absurd (omega (arith, integer-at v va x vs rest′ ev .within))
           match-cut-value r short ps (node tag n k us then vs) rest rest′ bindings hp hv sp sv ep ev l b = absurd (not-integer-at v va tag n k us vs rest′ g (hv .0 .0) ev (eg ∙ ap tagOf same) int-tag)
 
           pub match-integers-differ : ¬ (getD p (pa + 1) 0 ≡ getD v (va + 1) 0) → Matches p pa v va m env env false
-          unfolding Matches Matched count PlainAll Plain WholeAll Whole
+          unfolding Matches Matched count PlainAll Plain
           match-integers-differ d end vs rest rest′ bindings hp hv sp sv ep ev l b = absurd (omega arith)
           match-integers-differ d (node tag n k us then ps) vs rest rest′ bindings hp hv sp sv ep ev l b = absurd (not-integer-at p pa tag n k us ps rest g (hp .0 .0) ep eg int-tag)
           match-integers-differ d (int x then ps) end rest rest′ bindings hp hv sp sv ep ev l b = absurd (omega arith)
@@ -227,7 +228,7 @@ module _ (p : List ℕ) (pa : ℕ) (v : List ℕ) (va m : ℕ) (env : List ℕ) 
               match-then (int x) ps (int y) vs bindings ∙ ap (λ (z : Option Bindings). onward z ps vs) (integers-differ x y bindings (λ z. d (q .payload ∙ z ∙ sym (q′ .payload))))
 
           pub match-integers : getD p (pa + 1) 0 ≡ getD v (va + 1) 0 → (env′ : List ℕ) (r : Bool) → Matches p (pa + 2) v (va + 2) (m - 1) env env′ r → Matches p pa v va m env env′ r
-          unfolding Matches count PlainAll Plain WholeAll Whole
+          unfolding Matches count PlainAll Plain
           match-integers d env′ r ih end vs rest rest′ bindings hp hv sp sv ep ev l b = absurd (omega arith)
           match-integers d env′ r ih (node tag n k us then ps) vs rest rest′ bindings hp hv sp sv ep ev l b = absurd (not-integer-at p pa tag n k us ps rest g (hp .0 .0) ep eg int-tag)
           match-integers d env′ r ih (int x then ps) end rest rest′ bindings hp hv sp sv ep ev l b = absurd (omega arith)
@@ -241,7 +242,7 @@ module _ (p : List ℕ) (pa : ℕ) (v : List ℕ) (va m : ℕ) (env : List ℕ) 
 
         pub match-nodes : ¬ (g ≡ tagInteger) → (c : ℕ) (env′ : List ℕ) (r : Bool) → c ≡ arity (tagOf (getD p pa 0)) (nOf (getD p pa 0)) → Matches p (pa + 1) v (va + 1) (m - 1 + c) env env′ r
             → Matches p pa v va m env env′ r
-        unfolding Matches PlainAll Plain WholeAll Whole
+        unfolding Matches PlainAll Plain
         match-nodes i c env′ r ec ih end vs rest rest′ bindings hp hv sp sv ep ev l b = absurd (nz (sym sp ∙ no-count))
         match-nodes i c env′ r ec ih (int x then ps) vs rest rest′ bindings hp hv sp sv ep ev l b = absurd (i (eg ∙ integer-at p pa x ps rest ep .tag-is))
         match-nodes i c env′ r ec ih (node tag n k us then ps) end rest rest′ bindings hp hv sp sv ep ev l b = absurd (nz (sym sv ∙ no-count))
@@ -253,7 +254,7 @@ module _ (p : List ℕ) (pa : ℕ) (v : List ℕ) (va m : ℕ) (env : List ℕ) 
             let en = sym (o .n-is) ∙ ap nOf same ∙ o′ .n-is in
             let ek = sym (o .k-is) ∙ ap kOf same ∙ o′ .k-is in
             let z : count us ≡ count us′ = hp .0 .0 .all-children ∙ ap₂ arity et en ∙ sym (hv .0 .0 .all-children) in
-            let mm = ih (us andAll ps) (us′ andAll vs) rest rest′ bindings (plain-all us ps (hp .0 .2) (hp .1)) (whole-all us′ vs (hv .0 .1) (hv .1)) (o .count-is) (o′ .count-is) (o .on) (o′ .on) l b in
+            let mm = ih (us andAll ps) (us′ andAll vs) rest rest′ bindings (plain-all us ps (hp .0 .2) (hp .1)) (plain-all us′ vs (hv .0 .2) (hv .1)) (o .count-is) (o′ .count-is) (o .on) (o′ .on) l b in
             matched-is v env′ _ _ r (match-then (node tag n k us) ps (node tag′ n′ k′ us′) vs bindings
             ∙ ap (λ (x : Option Bindings). onward x ps vs) (match-node tag n k us (node tag′ n′ k′ us′) bindings (λ z. no-var (eg ∙ o .tag-is ∙ z)) ∙ ap (λ (x : Option Terms). below x us bindings) (children-same tag n k tag′ n′ k′ us′ et en ek))
             ∙ sym (match-all us ps us′ vs bindings z)) mm

@@ -12,7 +12,7 @@ use Rattle.term.specs.Words.{word, tagOf, nOf, kOf, tagAtom, tagTuple, tagInteg
 use Rattle.term.specs.Table.{arity}
 use Rattle.term.specs.Tree.{Term, Terms, int, node, end, _then_, words, wordsOf, count, Head, Whole, WholeAll}
 use Rattle.term.proofs.TreeLaws.{_andAll_, words-all, count-all, whole-all}
-use Rattle.machine.specs.Value.{isValue, areValues}
+use Rattle.term.specs.Value.{isValue, areValues}
 use Rattle.machine.specs.Place.{entered}
 use Rattle.machine.specs.Rows.{placeOf, placeAmong, EntersOf, Finds}
 use Rattle.machine.proofs.RowTerms.{arity-case, arity-other, NodeAt, node-at, integer-at, not-integer-at, some-words}

@@ -14,9 +14,11 @@ use Rattle.lists.proofs.Tests.{eqb-true, and-left, and-right, or-true, eqb-of}
 use Rattle.term.specs.Words.{word, tagOf, nOf, kOf, integerWord, tagInteger, tagVariable, tagCase, tagFunction}
 use Rattle.term.specs.Table.{Children, alike, body, ofClause, ofCase, ofReceive, Row, noRow, table, rowOf, childCount, arity}
 use Rattle.term.specs.Tree.{Term, Terms, int, node, end, _then_, words, wordsOf, count, Head, Whole, WholeAll}
+use Rattle.term.specs.Rows.{passed}
+use Rattle.term.proofs.RowLaws.{passed-none, passed-term, passed-within}
 use Rattle.term.proofs.WordLaws.{tag-word, n-word, k-word}
 use Rattle.term.proofs.TreeLaws.{_andAll_, words-all, count-all, whole-all, words-one}
-use Rattle.machine.specs.Rows.{ChildrenOf, Skips, Skipped, Stands, Plain, PlainAll}
+use Rattle.machine.specs.Rows.{Stands, Plain, PlainAll}
 
 -- ---- the number of children, as the code tests it
 -- only the tags of case and function have another number of children than n
@@ -65,16 +67,6 @@ arity-case tag n e = rw e (add-one n)
 pub arity-other : (tag n : ℕ) → ¬ (tag ≡ tagFunction) → ¬ (tag ≡ tagCase) → n ≡ arity tag n
 unfolding arity rowOf table mostly
 arity-other tag n d e = sym (in-rows table 0 tag n refl (λ z. e (omega (arith, z))) (λ z. d (omega (arith, z))))
-
--- by the code's tests
-pub children-function : (w t : ℕ) → t ≡ tagOf w → t ≡ tagFunction → 1 ≡ arity (tagOf w) (nOf w)
-children-function w t et e = arity-function (tagOf w) (nOf w) (sym et ∙ e)
-
-pub children-case : (w t n : ℕ) → t ≡ tagOf w → t ≡ tagCase → n ≡ nOf w → n + 1 ≡ arity (tagOf w) (nOf w)
-children-case w t n et e en = ap (λ (m : ℕ). m + 1) en ∙ arity-case (tagOf w) (nOf w) (sym et ∙ e)
-
-pub children-other : (w t n : ℕ) → t ≡ tagOf w → ¬ (t ≡ tagFunction) → ¬ (t ≡ tagCase) → n ≡ nOf w → n ≡ arity (tagOf w) (nOf w)
-children-other w t n et d e en = en ∙ arity-other (tagOf w) (nOf w) (λ z. d (et ∙ z)) (λ z. e (et ∙ z))
 
 -- ---- what stands at a place, where what is left from there is known
 pub record At (l : List ℕ) (at w : ℕ) (tl : List ℕ) : Type 0 where
@@ -138,6 +130,18 @@ pub not-integer-at : (l : List ℕ) (at tag n k : ℕ) (us ts : Terms) (rest : L
     → g ≡ tagOf (getD l at 0) → g ≡ tagInteger → ⊥
 not-integer-at l at tag n k us ts rest g h e eg i = h .no-integer (sym (node-at l at _ _ tag n k us ts rest h refl e refl .tag-is) ∙ sym eg ∙ i)
 
+-- plain terms are whole
+mutual
+  unfolding Plain PlainAll Whole WholeAll
+
+  pub plain-whole : (t : Term) → Plain t → Whole t
+  plain-whole (int x) h = h
+  plain-whole (node tag n k ts) h = (h .0, plain-all-whole ts (h .2))
+
+  pub plain-all-whole : (ts : Terms) → PlainAll ts → WholeAll ts
+  plain-all-whole end h = tt
+  plain-all-whole (t then ts) h = (plain-whole t (h .0), plain-all-whole ts (h .1))
+
 -- terms need words
 pub some-words : (l : List ℕ) (at p : ℕ) (ts : Terms) (rest : List ℕ) → ¬ (p ≡ 0) → p ≤ count ts → drop at l ≡ wordsOf ts ++ rest → at < length l
 unfolding count wordsOf words
@@ -149,38 +153,11 @@ some-words l at p (node tag n k us then ts) rest nz s e = at-place l at _ _ e .w
 pub past-term : (l : List ℕ) (at : ℕ) (t : Term) (rest : List ℕ) → drop at l ≡ words t ++ rest → drop (at + length (words t)) l ≡ rest
 past-term l at t rest e = sym (drop-drop (length (words t)) at l) ∙ ap (drop (length (words t))) e ∙ drop-append-seam (words t) rest
 
-pub one-skip : (l : List ℕ) (at r : ℕ) (t : Term) (rest : List ℕ) → Skipped l at 1 r → Whole t → drop at l ≡ words t ++ rest → r ≡ at + length (words t)
-unfolding Skips count WholeAll
-one-skip l at r t rest s h e = s .ends (t then end) rest (h, tt) refl (e ∙ ap (λ (ws : List ℕ). ws ++ rest) (sym (words-one t))) ∙ ap (λ (ws : List ℕ). at + length ws) (words-one t)
+-- where one term ends, as `skip` says it
+pub one-skip : (l : List ℕ) (at r : ℕ) (t : Term) (rest : List ℕ) → r ≡ at + passed (drop at l) 1 → Whole t → drop at l ≡ words t ++ rest → r ≡ at + length (words t)
+one-skip l at r t rest s h e =
+    s ∙ ap (λ (i : ℕ). at + i) (ap (λ (m : List ℕ). passed m 1) e ∙ passed-term t rest 0 h ∙ ap (λ (i : ℕ). length (words t) + i) (passed-none rest) ∙ add-zero (length (words t)))
 
--- ---- the steps of `skip`
-pub skip-none : (l : List ℕ) (at p : ℕ) → p ≡ 0 → Skips l at p at
-unfolding Skips wordsOf count
-skip-none l at p z end rest h s e = omega arith
-skip-none l at p z (t then ts) rest h s e = absurd (omega arith)
-
-pub skip-past : (l : List ℕ) (at p r : ℕ) → ¬ (p ≡ 0) → length l ≤ at → Skips l at p r
-unfolding Skips
-skip-past l at p r z past ts rest h s e = absurd (omega (arith, some-words l at p ts rest z (omega arith) e))
-
-module _ (l : List ℕ) (at p r g : ℕ) (nz : ¬ (p ≡ 0)) (eg : g ≡ tagOf (getD l at 0)) where
-  pub skip-short : g ≡ tagInteger → length l - at < 2 → Skips l at p r
-  unfolding Skips count Whole WholeAll
-  skip-short i short end rest h s e = absurd (omega arith)
-  skip-short i short (int x then ts) rest h s e = absurd (omega (arith, integer-at l at x ts rest e .within))
-  skip-short i short (node tag n k us then ts) rest h s e = absurd (not-integer-at l at tag n k us ts rest g (h .0 .0) e eg i)
-
-  pub skip-integer : g ≡ tagInteger → Skips l (at + 2) (p - 1) r → Skips l at p r
-  unfolding Skips wordsOf words count Whole WholeAll
-  skip-integer i ih end rest h s e = absurd (omega arith)
-  skip-integer i ih (int x then ts) rest h s e = let f = ih ts rest (h .1) (omega arith) (integer-at l at x ts rest e .on) in omega arith
-  skip-integer i ih (node tag n k us then ts) rest h s e = absurd (not-integer-at l at tag n k us ts rest g (h .0 .0) e eg i)
-
-  pub skip-node : ¬ (g ≡ tagInteger) → (c : ℕ) → c ≡ arity (tagOf (getD l at 0)) (nOf (getD l at 0)) → Skips l (at + 1) (p - 1 + c) r → Skips l at p r
-  unfolding Skips wordsOf words count Whole WholeAll
-  skip-node i c ar ih end rest h s e = absurd (omega arith)
-  skip-node i c ar ih (int x then ts) rest h s e = absurd (i (eg ∙ integer-at l at x ts rest e .tag-is))
-  skip-node i c ar ih (node tag n k us then ts) rest h s e =
-      let o = node-at l at p c tag n k us ts rest (h .0 .0) s e ar in
-      let f = ih (us andAll ts) rest (whole-all us ts (h .0 .1) (h .1)) (o .count-is) (o .on) in
-      omega (arith, length-append (wordsOf us) (wordsOf ts), ap length (words-all us ts))
+-- and in any row it is not past the end
+pub skip-within : (l : List ℕ) (at m r : ℕ) → r ≡ at + passed (drop at l) m → at ≤ length l → r ≤ length l
+skip-within l at m r s h = omega (arith, passed-within (drop at l) m, length-drop at l)

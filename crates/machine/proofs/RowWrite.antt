@@ -13,9 +13,10 @@ use lib.ListN.{length, drop, take, getD, set, length-append, length-drop, length
 use lib.Seq.{sets, length-sets, take-suc, getD-drop, set-out, length-take-le, take-append-seam}
 use Rattle.lists.proofs.Tests.{eqb-of, eqb-apart}
 use Rattle.term.specs.Words.{tagOf, kOf, tagVariable}
-use Rattle.term.specs.Tree.{Term, words, Whole}
-use Rattle.machine.specs.Rows.{Skipped, Stands, Wrote, CopiedTerm, entryOf}
-use Rattle.machine.proofs.RowTerms.{one-skip}
+use Rattle.term.specs.Rows.{passed}
+use Rattle.term.specs.Tree.{Term, int, node, words}
+use Rattle.machine.specs.Rows.{Stands, Wrote, CopiedTerm, entryOf}
+use Rattle.machine.proofs.RowTerms.{one-skip, plain-whole, at-place}
 
 pub sets-append : (o : List ℕ) (to : ℕ) (a b : List ℕ) → sets o to (a ++ b) ≡ sets (sets o to a) (to + length a) b
 sets-append o to [] b = rw add-zero
@@ -93,23 +94,23 @@ module _ (env : List ℕ) (w t : ℕ) (et : t ≡ tagOf w) where
     entry-is = rw (eqb-of (tagOf w) tagVariable (sym et ∙ e), ek)
 
 -- ---- one term
-stands-within : (l : List ℕ) (at : ℕ) (t : Term) → Stands l at t → at < length l
+pub stands-within : (l : List ℕ) (at : ℕ) (t : Term) → Stands l at t → at < length l
 unfolding words
 stands-within l at t s = go t (s .here)
   where
     go : (t : Term) → drop at l ≡ words t ++ s .rest → at < length l
-    go (Rattle.term.specs.Tree.int x) e = Rattle.machine.proofs.RowTerms.at-place l at _ _ e .within
-    go (Rattle.term.specs.Tree.node tag n k ts) e = Rattle.machine.proofs.RowTerms.at-place l at _ _ e .within
+    go (int x) e = at-place l at _ _ e .within
+    go (node tag n k ts) e = at-place l at _ _ e .within
 
 module _ (l : List ℕ) (at to : ℕ) (o : List ℕ) where
   pub term-past : to ≤ suc (length o) → length l ≤ at → CopiedTerm l at to o o to
   term-past h past = record { copies = λ t s. absurd (omega (arith, stands-within l at t s)); within = h }
 
-  pub term-written : (r m : ℕ) (new : List ℕ) → Skipped l at 1 r → Wrote (take (r - at) (drop at l)) to o new m → CopiedTerm l at to o new m
+  pub term-written : (r m : ℕ) (new : List ℕ) → r ≡ at + passed (drop at l) 1 → Wrote (take (r - at) (drop at l)) to o new m → CopiedTerm l at to o new m
   term-written r m new s w =
       record {
         copies = λ t h.
-            let q : r - at ≡ length (words t) = omega (arith, one-skip l at r t (h .rest) s (h .whole) (h .here)) in
+            let q : r - at ≡ length (words t) = omega (arith, one-skip l at r t (h .rest) s (plain-whole t (h .plain)) (h .here)) in
             let x : take (r - at) (drop at l) ≡ words t = ap₂ (λ (n : ℕ) (m : List ℕ). take n m) q (h .here) ∙ take-append-seam (words t) (h .rest) in
             rw x at w;
         within = wrote-within (take (r - at) (drop at l)) to o new m w;

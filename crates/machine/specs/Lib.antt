@@ -8,6 +8,8 @@ pub mod Place
 pub mod Work
 pub mod Answers
 pub mod Rows
+pub mod Operands
+pub mod Guards
 pub mod Opened
 pub mod Laws
 pub mod Cases

@@ -7,43 +7,29 @@ use mathlib.Core.List.{List, [], _∷_, _++_}
 use lib.Dec.{eqb}
 use lib.ListN.{length, drop, getD}
 use lib.Seq.{sets}
-use Rattle.term.specs.Words.{tagOf, nOf, kOf, tagVariable}
-use Rattle.term.specs.Table.{arity}
+use Rattle.term.specs.Words.{tagOf, nOf, kOf, tagVariable, tagCons}
 use Rattle.term.specs.Tree.{Term, Terms, int, node, end, _then_, words, wordsOf, count, Head, Whole, WholeAll}
-use Rattle.machine.specs.Value.{isValue, sameTerms}
+use Rattle.term.specs.Value.{isValue}
+use Rattle.machine.specs.Value.{sameTerms}
 use Rattle.machine.specs.Match.{Bindings, matchAll}
 use Rattle.machine.specs.Bind.{bindAll}
 use Rattle.machine.specs.Place.{entered}
 
--- so many children follow the word
-pub record ChildrenOf (w r : ℕ) : Type 0 where
-  pub is : r ≡ arity (tagOf w) (nOf w)
-  pub few : r ≤ 256
-
--- r is where the p terms at `at` end, whenever p terms stand there
-unfoldable pub Skips : List ℕ → ℕ → ℕ → ℕ → Type 0
-Skips l at p r = (ts : Terms) (rest : List ℕ) → WholeAll ts → count ts ≡ p → drop at l ≡ wordsOf ts ++ rest → r ≡ at + length (wordsOf ts)
-
-pub record Skipped (l : List ℕ) (at p r : ℕ) : Type 0 where
-  pub ends : Skips l at p r
-  pub from : at ≤ r
-  pub to : r ≤ length l
-
--- a term stands at a place in a row
-pub record Stands (l : List ℕ) (at : ℕ) (t : Term) : Type 0 where
-  pub whole : Whole t
-  pub rest : List ℕ
-  pub here : drop at l ≡ words t ++ rest
-
--- whole terms whose variables have no children and numbers below 64
+-- whole terms in which atoms, pids, nils and variables have no children, and variables have numbers below 64
 unfoldable mutual
   pub Plain : Term → Type 0
   Plain (int x) = Whole (int x)
-  Plain (node tag n k ts) = Head tag n k (count ts) × (tag ≡ tagVariable → (n ≡ 0) × (k < 64)) × PlainAll ts
+  Plain (node tag n k ts) = Head tag n k (count ts) × ((tag < tagCons → n ≡ 0) × (tag ≡ tagVariable → k < 64)) × PlainAll ts
 
   pub PlainAll : Terms → Type 0
   PlainAll end = Unit {0}
   PlainAll (t then ts) = Plain t × PlainAll ts
+
+-- a term stands at a place in a row
+pub record Stands (l : List ℕ) (at : ℕ) (t : Term) : Type 0 where
+  pub plain : Plain t
+  pub rest : List ℕ
+  pub here : drop at l ≡ words t ++ rest
 
 -- whether the terms at i in a are those at j in b
 unfoldable pub Sames : (a : List ℕ) (i : ℕ) (b : List ℕ) (j p : ℕ) (r : Bool) → Type 0
@@ -86,7 +72,7 @@ Matched values env o false = o ≡ none
 
 unfoldable pub Matches : (p : List ℕ) (pa : ℕ) (v : List ℕ) (va m : ℕ) (env env′ : List ℕ) (r : Bool) → Type 0
 Matches p pa v va m env env′ r =
-    (ps vs : Terms) (rest rest′ : List ℕ) (bindings : Bindings) → PlainAll ps → WholeAll vs → count ps ≡ m → count vs ≡ m
+    (ps vs : Terms) (rest rest′ : List ℕ) (bindings : Bindings) → PlainAll ps → PlainAll vs → count ps ≡ m → count vs ≡ m
     → drop pa p ≡ wordsOf ps ++ rest → drop va v ≡ wordsOf vs ++ rest′ → length env ≡ 64 → Bound v env bindings
     → Matched v env′ (matchAll ps vs bindings) r
 

@@ -1,8 +1,10 @@
 // Writing rows: words one after another as far as there is room. A place past the buffer's end is its length plus 1.
-use crate::words::children;
-use crate::words::k;
-use crate::words::skip;
-use crate::words::tag;
+use term::tables::children;
+use term::terms::skip;
+use term::words::INTEGER;
+use term::words::VARIABLE;
+use term::words::k;
+use term::words::tag;
 ghost use mathlib.Core.Path.{_≡_};
 ghost use mathlib.Core.List.{[], _∷_};
 ghost use Prim.Native.Nat.{ℕ, suc, _<_, _≤_, _+_, _*_, _-_};
@@ -49,7 +51,7 @@ pub fn copy_term(src: &[u32], at: usize, out: &mut [u32], to: usize) -> usize
 pub fn entry(env: &[u32], w: u32) -> usize
     ensures { λ r. ⌜ r ≡ entryOf (now (env .entry)) w ⌝ }
 {
-    if tag(w) != 1 {
+    if tag(w) != VARIABLE {
         return 0;
     }
     let x = k(w) as usize;
@@ -88,7 +90,7 @@ pub fn copy(
         return copy(src, at + 1, pending - 1, values, env, out, b);
     }
     let b = put(out, to, w);
-    if tag(w) == 3 {
+    if tag(w) == INTEGER {
         if src.len() - at < 2 {
             return b;
         }

@@ -4,6 +4,25 @@ ghost use lib.IntN.{_+ℤ_, _-ℤ_, _*ℤ_};
 ghost use lib.Signed.{quotZ, remZ};
 ghost use Rattle.machine.specs.Operator.{signed, unsigned, inRange, ranged, divided};
 ghost use Rattle.machine.specs.Answers.{number};
+ghost use Rattle.machine.specs.Operands.{Computes};
+
+pub const ADD: u32 = 0;
+
+pub const SUBTRACT: u32 = 1;
+
+pub const MULTIPLY: u32 = 2;
+
+pub const DIV: u32 = 3;
+
+pub const REM: u32 = 4;
+
+pub const EQUAL: u32 = 5;
+
+pub const UNEQUAL: u32 = 6;
+
+pub const LESS: u32 = 7;
+
+pub const AT_MOST: u32 = 8;
 
 pub enum Number {
     Value(i32),
@@ -90,4 +109,26 @@ pub fn rem(x: i32, y: i32) -> Number
         return Number::Value(0);
     }
     Number::Value(x % y)
+}
+
+// The operators + - * div rem.
+pub fn compute(op: u32, x: i32, y: i32) -> Number
+    ensures { λ r. ⌜ Computes op x y r ⌝ }
+{
+    if op == ADD {
+        return add(x, y);
+    }
+    if op == SUBTRACT {
+        return sub(x, y);
+    }
+    if op == MULTIPLY {
+        return mul(x, y);
+    }
+    if op == DIV {
+        return div(x, y);
+    }
+    if op == REM {
+        return rem(x, y);
+    }
+    Number::Stuck
 }

@@ -1,7 +1,8 @@
 // One process step on rows of words: what a control is about to do, and what it becomes.
 pub mod copy;
+pub mod guard;
 pub mod integer;
 pub mod matching;
+pub mod operand;
 pub mod place;
 pub mod same;
-pub mod words;

@@ -1,8 +1,10 @@
 // Matching patterns against values.
-use crate::words::children;
-use crate::words::k;
-use crate::words::skip;
-use crate::words::tag;
+use term::tables::children;
+use term::terms::skip;
+use term::words::INTEGER;
+use term::words::VARIABLE;
+use term::words::k;
+use term::words::tag;
 ghost use mathlib.Core.Path.{_≡_};
 ghost use Prim.Native.Nat.{ℕ, _<_, _≤_, _+_, _*_, _-_};
 ghost use lib.ListN.{length};
@@ -10,7 +12,7 @@ ghost use Rattle.machine.specs.Rows.{Matches};
 
 // Whether the `pending` values at `va` in `v` fit the patterns at `pa` in `p`; for each variable `env` gets the place after its value's.
 pub fn matches(p: &[u32], pa: usize, v: &[u32], va: usize, pending: usize, env: &mut [u32]) -> bool
-    requires { ⌜ (pa ≤ length (now p)) × (va ≤ length (now v)) × (pending + 256 * (length (now p) - pa) < 9223372036854775808) × (length (now v) < 4294967295) ⌝ }
+    requires { ⌜ (pa ≤ length (now p)) × (pending + 256 * (length (now p) - pa) < 9223372036854775808) × (length (now v) < 4294967295) ⌝ }
     ensures { λ r. ⌜ Matches (now (p .entry)) pa (now (v .entry)) va pending (now (env .entry)) (now (env .exit)) r ⌝ }
 {
     if pending == 0 {
@@ -24,7 +26,7 @@ pub fn matches(p: &[u32], pa: usize, v: &[u32], va: usize, pending: usize, env: 
     }
     let w = p[pa];
     let t = tag(w);
-    if t == 1 {
+    if t == VARIABLE {
         let x = k(w) as usize;
         if env.len() <= x {
             return false;
@@ -36,7 +38,7 @@ pub fn matches(p: &[u32], pa: usize, v: &[u32], va: usize, pending: usize, env: 
     if w != v[va] {
         return false;
     }
-    if t == 3 {
+    if t == INTEGER {
         if p.len() - pa < 2 {
             return false;
         }

@@ -1,7 +1,13 @@
 // The working place.
-use crate::words::children;
-use crate::words::n;
-use crate::words::tag;
+use term::tables::children;
+use term::words::ATOM;
+use term::words::CASE;
+use term::words::INTEGER;
+use term::words::LET;
+use term::words::RECEIVE;
+use term::words::TUPLE;
+use term::words::n;
+use term::words::tag;
 ghost use mathlib.Core.Path.{_≡_};
 ghost use mathlib.Core.Bool.{_&&_};
 ghost use Prim.Native.Nat.{ℕ, _<_, _≤_, _+_, _*_, _-_};
@@ -14,7 +20,7 @@ ghost use Rattle.machine.specs.Rows.{EntersOf, Finds};
 fn of_value(t: u32) -> bool
     ensures { λ r. ⌜ r ≡ (leb tagAtom t && leb t tagTuple) ⌝ }
 {
-    2 <= t && t <= 7
+    ATOM <= t && t <= TUPLE
 }
 
 // How many children of a word may be gone into.
@@ -22,13 +28,13 @@ fn entered(w: u32) -> usize
     ensures { λ r. ⌜ EntersOf w r ⌝ }
 {
     let t = tag(w);
-    if t == 12 {
+    if t == RECEIVE {
         return 0;
     }
-    if t == 10 {
+    if t == CASE {
         return 1;
     }
-    if t == 11 {
+    if t == LET {
         if n(w) == 0 {
             return 0;
         }
@@ -50,7 +56,7 @@ pub fn find(src: &[u32], at: usize, pending: usize, here: usize) -> usize
     }
     let w = src[at];
     let t = tag(w);
-    if t == 3 {
+    if t == INTEGER {
         if src.len() - at < 2 {
             return here;
         }

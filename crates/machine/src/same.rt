@@ -1,6 +1,7 @@
 // When two values are equal.
-use crate::words::children;
-use crate::words::tag;
+use term::tables::children;
+use term::words::INTEGER;
+use term::words::tag;
 ghost use Prim.Native.Nat.{ℕ, _<_, _≤_, _+_, _*_, _-_};
 ghost use lib.ListN.{length};
 ghost use Rattle.machine.specs.Rows.{Sames};
@@ -23,7 +24,7 @@ pub fn same(a: &[u32], i: usize, b: &[u32], j: usize, pending: usize) -> bool
     if w != b[j] {
         return false;
     }
-    if tag(w) == 3 {
+    if tag(w) == INTEGER {
         if a.len() - i < 2 {
             return false;
         }

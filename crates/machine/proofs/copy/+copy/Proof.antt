@@ -8,8 +8,8 @@ use Rattle.machine.proofs.copy.+copy.Lts-copy as copy-lts
 use Rattle.machine.proofs.copy.copy_term.Reads as copy-term-reads
 use Rattle.machine.proofs.copy.entry.Reads as entry-reads
 use Rattle.machine.proofs.copy.put.Reads as put-reads
-use Rattle.machine.proofs.words.children.Reads as children-reads
-use Rattle.machine.proofs.words.tag.Reads as tag-reads
+use Rattle.term.proofs.tables.children.Reads as children-reads
+use Rattle.term.proofs.words.tag.Reads as tag-reads
 use Rattle.machine.proofs.copy.+copy.{statement}
 use Rattle.machine.proofs.copy.+copy.Tie.{close}
 use native.Mathlib.Omega.{arith}

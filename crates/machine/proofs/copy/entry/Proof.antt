@@ -3,8 +3,8 @@ use Rattle.machine.proofs.copy.entry.Statement.{statement}
 use Rattle.machine.proofs.copy.entry.Tie as tie
 use Rattle.machine.proofs.copy.entry.Reads as reads
 use Rattle.machine.proofs.copy.entry.Lts as lts
-use Rattle.machine.proofs.words.k.Reads as k-reads
-use Rattle.machine.proofs.words.tag.Reads as tag-reads
+use Rattle.term.proofs.words.k.Reads as k-reads
+use Rattle.term.proofs.words.tag.Reads as tag-reads
 use Rattle.machine.proofs.RowWrite.{entry-not, entry-past, entry-is}
 use native.Mathlib.Omega.{arith}
 

@@ -5,10 +5,10 @@ use borrow.Fn.PlainCycle.{Measures, is, falls, and}
 use Rattle.machine.proofs.matching.matches.Reads as matches
 use Rattle.machine.proofs.matching.matches.Kinds as matches-kinds
 use Rattle.machine.proofs.matching.+matches.Lts-matches as matches-lts
-use Rattle.machine.proofs.words.children.Reads as children-reads
-use Rattle.machine.proofs.words.k.Reads as k-reads
-use Rattle.machine.proofs.words.skip.Reads as skip-reads
-use Rattle.machine.proofs.words.tag.Reads as tag-reads
+use Rattle.term.proofs.tables.children.Reads as children-reads
+use Rattle.term.proofs.terms.skip.Reads as skip-reads
+use Rattle.term.proofs.words.k.Reads as k-reads
+use Rattle.term.proofs.words.tag.Reads as tag-reads
 use Rattle.machine.proofs.matching.+matches.{statement}
 use Rattle.machine.proofs.matching.+matches.Tie.{close}
 use native.Mathlib.Omega.{arith}

@@ -7,8 +7,8 @@ use Rattle.machine.proofs.place.find.Kinds as find-kinds
 use Rattle.machine.proofs.place.+find.Lts-find as find-lts
 use Rattle.machine.proofs.place.entered.Reads as entered-reads
 use Rattle.machine.proofs.place.of_value.Reads as of-value-reads
-use Rattle.machine.proofs.words.children.Reads as children-reads
-use Rattle.machine.proofs.words.tag.Reads as tag-reads
+use Rattle.term.proofs.tables.children.Reads as children-reads
+use Rattle.term.proofs.words.tag.Reads as tag-reads
 use Rattle.machine.proofs.place.+find.{statement}
 use Rattle.machine.proofs.place.+find.Tie.{close}
 use lib.ListN.{length}

@@ -5,8 +5,8 @@ use borrow.Fn.PlainCycle.{Measures, is, falls, and}
 use Rattle.machine.proofs.same.same.Reads as same
 use Rattle.machine.proofs.same.same.Kinds as same-kinds
 use Rattle.machine.proofs.same.+same.Lts-same as same-lts
-use Rattle.machine.proofs.words.children.Reads as children-reads
-use Rattle.machine.proofs.words.tag.Reads as tag-reads
+use Rattle.term.proofs.tables.children.Reads as children-reads
+use Rattle.term.proofs.words.tag.Reads as tag-reads
 use Rattle.machine.proofs.same.+same.{statement}
 use Rattle.machine.proofs.same.+same.Tie.{close}
 use lib.ListN.{length}
