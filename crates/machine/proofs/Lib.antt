@@ -7,3 +7,4 @@ pub mod RowMatch
 pub mod RowCopy
 pub mod RowOperand
 pub mod RowGuard
+pub mod RowClause

@@ -51,7 +51,7 @@ unfolding guardGives guardsGive isValue operateBoth
 gives-call tag n k t u e = rw e
 
 -- ---- a value is no variable
-third : (a b c : Bool) → (a && b && c) ≡ true → c ≡ true
+pub third : (a b c : Bool) → (a && b && c) ≡ true → c ≡ true
 third true true c e = e
 third true false c e = true-not-false e refl
 third false b c e = true-not-false e refl

@@ -22,11 +22,11 @@ use Rattle.machine.specs.Rows.{Stands, Plain, PlainAll, Entry, Bound, Ma
 use Rattle.machine.proofs.RowTerms.{arity-other, NodeAt, node-at, integer-at, not-integer-at, some-words, past-term, one-skip, plain-whole}
 
 -- ---- match, by what it looks at
-abbrev onward : Option Bindings → Terms → Terms → Option Bindings
+abbrev pub onward : Option Bindings → Terms → Terms → Option Bindings
 onward none ps vs = none
 onward (some bindings) ps vs = matchAll ps vs bindings
 
-abbrev below : Option Terms → Terms → Bindings → Option Bindings
+abbrev pub below : Option Terms → Terms → Bindings → Option Bindings
 below none ps bindings = none
 below (some vs) ps bindings = matchAll ps vs bindings
 
@@ -42,7 +42,7 @@ pub match-variable : (tag n k : ℕ) (ps : Terms) (v : Term) (bindings : Binding
 unfolding match
 match-variable tag n k ps v bindings e = rw e
 
-match-node : (tag n k : ℕ) (ps : Terms) (v : Term) (bindings : Bindings) → ¬ (tag ≡ tagVariable) → match (node tag n k ps) v bindings ≡ below (childrenOf tag n k v) ps bindings
+pub match-node : (tag n k : ℕ) (ps : Terms) (v : Term) (bindings : Bindings) → ¬ (tag ≡ tagVariable) → match (node tag n k ps) v bindings ≡ below (childrenOf tag n k v) ps bindings
 unfolding match
 match-node tag n k ps v bindings d = go (eqb tag tagVariable) (eqb-apart tag tagVariable d) (childrenOf tag n k v)
   where

@@ -10,6 +10,7 @@ pub mod Answers
 pub mod Rows
 pub mod Operands
 pub mod Guards
+pub mod Clausal
 pub mod Opened
 pub mod Laws
 pub mod Cases

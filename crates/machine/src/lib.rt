@@ -6,3 +6,4 @@ pub mod matching;
 pub mod operand;
 pub mod place;
 pub mod same;
+pub mod clause;
