@@ -7,3 +7,14 @@ pub mod RowLaws
 pub mod SpotLaws
 pub mod ShapeLaws
 pub mod ReadingLaws
+pub mod MarkLaws
+pub mod StandLaws
+pub mod BindLaws
+pub mod WalkLaws
+pub mod ControlLaws
+pub mod ModuleLaws
+pub mod FunctionLaws
+pub mod RuleLaws
+pub mod CheckLaws
+pub mod PlaceLaws
+pub mod GoodLaws

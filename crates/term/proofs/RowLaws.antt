@@ -7,11 +7,11 @@ use native.Mathlib.Omega.{arith}
 use native.Mathlib.Nat.{zero-add, add-zero, suc-add}
 use native.Mathlib.Numerals.{add-one}
 use native.Mathlib.Decide.{ℕ-discrete}
-use lib.Dec.{eqb, leb}
+use lib.Dec.{leb}
 use lib.ListN.{length, getD, drop, length-drop, length-append, drop-of-length-le}
 use lib.Seq.{drop-cons}
-use Rattle.lists.proofs.Tests.{eqb-of, eqb-apart, leb-of, leb-over, and-of}
-use Rattle.term.specs.Words.{word, tagOf, nOf, tagInteger, tagAtom, tagTuple, integerWord}
+use Rattle.lists.proofs.Tests.{eqb-of, eqb-apart, leb-of, leb-over}
+use Rattle.term.specs.Words.{word, tagOf, nOf, tagInteger, tagAtom, tagTuple}
 use Rattle.term.specs.Table.{arity}
 use Rattle.term.specs.Tree.{Term, Terms, int, node, end, _then_, words, wordsOf, count, Whole, WholeAll}
 use Rattle.term.specs.Value.{isValue, areValues}

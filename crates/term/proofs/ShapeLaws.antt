@@ -337,7 +337,7 @@ unfolding controlShape
 control-shaped places t h = term-shaped places spotExpression t h
 
 -- a new term may begin where no spot waits
-shape-begins : (places s : ℕ) (new : List ℕ) (t : Term) (l : List ℕ) (at : ℕ) → shape places (s ∷ new) (words t ++ l) [] at ≡ shape places (s ∷ new) (words t ++ l) (s ∷ new) at
+pub shape-begins : (places s : ℕ) (new : List ℕ) (t : Term) (l : List ℕ) (at : ℕ) → shape places (s ∷ new) (words t ++ l) [] at ≡ shape places (s ∷ new) (words t ++ l) (s ∷ new) at
 unfolding shape wanted words
 shape-begins places s new (int x) l at = refl
 shape-begins places s new (node tag n k ts) l at = refl

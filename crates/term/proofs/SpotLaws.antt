@@ -2,18 +2,17 @@
 use Prim.Native.Nat.{ℕ, zero, suc, _+_, _≤_, _<_}
 use mathlib.Core.Path.{_≡_, refl, sym, ap, _∙_}
 use mathlib.Core.Bool.{Bool, true, false, cond, not, _&&_}
-use mathlib.Core.List.{List, [], _∷_, _++_, append-nil}
+use mathlib.Core.List.{List, [], _∷_, append-nil}
 use native.Mathlib.Omega.{arith}
 use native.Mathlib.Nat.{add-zero, zero-add, add-suc, suc-add}
 use lib.Dec.{eqb, leb, ltb}
-use lib.ListN.{length, getD, replicate}
+use lib.ListN.{getD, replicate}
 use Rattle.lists.specs.Lists.{member}
 use native.Mathlib.Decide.{ℕ-discrete}
 use Rattle.lists.proofs.Tests.{eqb-of, eqb-apart, cond-true, cond-false, ltb-true, leb-of, leb-over, not-true, not-false, and-left, and-right}
 use Rattle.term.specs.Words.{tagOf, nOf, kOf, tagPid, tagCall}
 use Rattle.term.specs.Table.{Children, alike, body, ofClause, ofCase, ofReceive, rowOf, tagsAt, kLimit, fits, ownSpot, spotsBelow, childSpots, spotGuard, spotValue}
 use Rattle.term.specs.Kinds.{kindOf}
-use Rattle.term.specs.declared.shape.Spots.{Spots}
 use Rattle.term.specs.Reading.{RunsOf}
 
 -- which of n tags, from one on, stand in a list: 1 where one does

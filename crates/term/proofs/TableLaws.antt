@@ -1,11 +1,11 @@
 -- The code's tables hold what the table of the 18 tags says: one test computed over each column.
-use Prim.Native.Nat.{ℕ, zero, suc, _+_, _≤_, _<_}
-use mathlib.Core.Path.{_≡_, refl, sym, ap, _∙_}
-use mathlib.Core.Bool.{Bool, true, false, cond}
-use mathlib.Core.List.{List, [], _∷_, map}
+use Prim.Native.Nat.{ℕ, suc, _+_, _≤_}
+use mathlib.Core.Path.{_≡_, refl, sym, _∙_}
+use mathlib.Core.Bool.{cond}
+use mathlib.Core.List.{map}
 use native.Mathlib.Omega.{arith}
 use lib.Dec.{eqb}
-use lib.ListN.{length, getD, List·getD-map, List·getD-eq-default}
+use lib.ListN.{getD, List·getD-map, List·getD-eq-default}
 use Rattle.lists.proofs.Tests.{eqb-of, eqb-apart, cond-true, cond-false}
 use Rattle.term.specs.Words.{tagOf, nOf, tagInteger}
 use Rattle.term.specs.Table.{Children, alike, body, ofClause, ofCase, ofReceive, Row, noRow, table, rowOf, childCount, arity}

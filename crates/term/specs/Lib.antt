@@ -11,4 +11,7 @@ pub mod Value
 pub mod Kinds
 pub mod Rows
 pub mod Reading
+pub mod Walking
+pub mod Checking
+pub mod Places
 pub mod Cases

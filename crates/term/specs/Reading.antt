@@ -1,5 +1,5 @@
 -- What the code's reading for shape promises. Assumes nothing: these are definitions.
-use Prim.Native.Nat.{ℕ, _≤_}
+use Prim.Native.Nat.{ℕ, _≤_, _<_}
 use mathlib.Core.Path.{_≡_}
 use mathlib.Core.Option.{Option, none, some}
 use mathlib.Core.List.{List, _++_}
@@ -19,10 +19,15 @@ unfoldable pub NoLess : ℕ → Reading → Type 0
 NoLess at (Ends a) = at ≤ a
 NoLess at (Fails p) = at ≤ p
 
+unfoldable pub Further : ℕ → Reading → Type 0
+Further at (Ends a) = at < a
+Further at (Fails p) = Unit {0}
+
 -- r answers for so many terms at a spot from `at` on, whatever waits after them
 pub record Reads (places : ℕ) (l : List ℕ) (at spot times : ℕ) (r : Reading) : Type 0 where
   pub answer : (new others : List ℕ) → shape places new (drop at l) (replicate times spot ++ others) at ≡ onward places new l others r
   pub no-less : NoLess at r
+  pub further : ¬ (times ≡ 0) → Further at r
 
 -- three runs of spots that are together those of the children of w
 abbrev pub RunsOf : (spot w : ℕ) → Spots → Type 0

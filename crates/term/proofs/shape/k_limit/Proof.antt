@@ -1,10 +1,8 @@
+-- `term::shape::k_limit` meets its contract.
 use borrow.Author.Needs.{needs}
 use Rattle.term.proofs.SpotLaws.{limit-pid, limit-other}
 use Rattle.term.proofs.shape.k_limit.Statement.{statement}
 use Rattle.term.proofs.shape.k_limit.Tie as tie
-use Rattle.term.proofs.shape.k_limit.Reads as reads
-use Rattle.term.proofs.shape.k_limit.Lts as lts
-use Rattle.term.proofs.tables.limit.Reads as limit-reads
 
 cast-if1 : tie.Need-cast-if1
 cast-if1 c = search needs

@@ -1,15 +1,8 @@
+-- `term::shape::may_stand` meets its contract.
 use borrow.Author.Needs.{needs}
 use Rattle.term.proofs.SpotLaws.{fits-not, fits-n, fits-k}
 use Rattle.term.proofs.shape.may_stand.Statement.{statement}
 use Rattle.term.proofs.shape.may_stand.Tie as tie
-use Rattle.term.proofs.shape.may_stand.Reads as reads
-use Rattle.term.proofs.shape.may_stand.Lts as lts
-use Rattle.term.proofs.shape.k_limit.Reads as k-limit-reads
-use Rattle.term.proofs.shape.n_fits.Reads as n-fits-reads
-use Rattle.term.proofs.shape.stands.Reads as stands-reads
-use Rattle.term.proofs.words.k.Reads as k-reads
-use Rattle.term.proofs.words.n.Reads as n-reads
-use Rattle.term.proofs.words.tag.Reads as tag-reads
 
 tag-requires : tie.Need-tag-requires
 tag-requires c κs = search needs

@@ -1,11 +1,8 @@
+-- `term::shape::n_fits` meets its contract.
 use borrow.Author.Needs.{needs}
 use Rattle.term.proofs.SpotLaws.{n-least, n-greatest}
 use Rattle.term.proofs.shape.n_fits.Statement.{statement}
 use Rattle.term.proofs.shape.n_fits.Tie as tie
-use Rattle.term.proofs.shape.n_fits.Reads as reads
-use Rattle.term.proofs.shape.n_fits.Lts as lts
-use Rattle.term.proofs.tables.greatest.Reads as greatest-reads
-use Rattle.term.proofs.tables.least.Reads as least-reads
 
 least-requires : tie.Need-least-requires
 least-requires c κs = search needs

@@ -1,9 +1,7 @@
-use borrow.Author.Needs.{needs}
+-- `term::shape::own_spot` meets its contract.
 use Rattle.term.proofs.SpotLaws.{own-other, own-call, own-value}
 use Rattle.term.proofs.shape.own_spot.Statement.{statement}
 use Rattle.term.proofs.shape.own_spot.Tie as tie
-use Rattle.term.proofs.shape.own_spot.Reads as reads
-use Rattle.term.proofs.shape.own_spot.Lts as lts
 
 returns : tie.Need-returns
 returns c = search own-other

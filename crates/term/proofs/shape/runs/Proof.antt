@@ -1,13 +1,8 @@
+-- `term::shape::runs` meets its contract.
 use borrow.Author.Needs.{needs}
 use Rattle.term.proofs.SpotLaws.{runs-clause, runs-case, runs-receive, runs-body, runs-alike}
 use Rattle.term.proofs.shape.runs.Statement.{statement}
 use Rattle.term.proofs.shape.runs.Tie as tie
-use Rattle.term.proofs.shape.runs.Reads as reads
-use Rattle.term.proofs.shape.runs.Lts as lts
-use Rattle.term.proofs.shape.own_spot.Reads as own-spot-reads
-use Rattle.term.proofs.tables.below.Reads as below-reads
-use Rattle.term.proofs.words.n.Reads as n-reads
-use Rattle.term.proofs.words.tag.Reads as tag-reads
 
 n-requires : tie.Need-n-requires
 n-requires c κs = search needs

@@ -1,3 +1,4 @@
+-- `term::shape::stands` meets its contract.
 use borrow.Author.Needs.{needs}
 use Rattle.term.proofs.SpotLaws.{stands-tag, stands-spot, stands-other, stands-guard, stands-control}
 use Rattle.term.proofs.SpotLaws.{rows, rowAt, flags}
@@ -5,8 +6,6 @@ use Rattle.lists.specs.Lists.{member}
 use Rattle.term.specs.Table.{tagsAt}
 use Rattle.term.proofs.shape.stands.Statement.{statement}
 use Rattle.term.proofs.shape.stands.Tie as tie
-use Rattle.term.proofs.shape.stands.Reads as reads
-use Rattle.term.proofs.shape.stands.Lts as lts
 
 returns : tie.Need-returns
 returns c = search stands-tag

@@ -1,12 +1,8 @@
+-- `term::tables::children` meets its contract.
 use borrow.Author.Needs.{needs}
 use Rattle.term.proofs.TableLaws.{count-body, count-case, count-other}
 use Rattle.term.proofs.tables.children.Statement.{statement}
 use Rattle.term.proofs.tables.children.Tie as tie
-use Rattle.term.proofs.tables.children.Reads as reads
-use Rattle.term.proofs.tables.children.Lts as lts
-use Rattle.term.proofs.tables.below.Reads as below-reads
-use Rattle.term.proofs.words.n.Reads as n-reads
-use Rattle.term.proofs.words.tag.Reads as tag-reads
 
 -- src/tables.rt:68:17
 n-requires : tie.Need-n-requires

@@ -1,3 +1,4 @@
+-- `term::tables::greatest` meets its contract.
 use mathlib.Core.Path.{sym, ap}
 use borrow.Author.Needs.{needs}
 use Rattle.term.specs.Table.{table}

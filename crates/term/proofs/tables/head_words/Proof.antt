@@ -1,10 +1,8 @@
+-- `term::tables::head_words` meets its contract.
 use borrow.Author.Needs.{needs}
 use Rattle.term.proofs.TableLaws.{head-two, head-one}
 use Rattle.term.proofs.tables.head_words.Statement.{statement}
 use Rattle.term.proofs.tables.head_words.Tie as tie
-use Rattle.term.proofs.tables.head_words.Reads as reads
-use Rattle.term.proofs.tables.head_words.Lts as lts
-use Rattle.term.proofs.words.tag.Reads as tag-reads
 
 -- src/tables.rt:83:8
 tag-requires : tie.Need-tag-requires

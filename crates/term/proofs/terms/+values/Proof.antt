@@ -1,3 +1,4 @@
+-- `term::terms::values` meets its contract.
 use borrow.Author.Needs.{needs}
 use Prim.Native.Nat.{ℕ, _<_, _-_}
 use lib.ListN.{length}

@@ -1,0 +1,63 @@
+-- What the code's walks for the rules promise. Assumes nothing: these are definitions.
+use Prim.Native.Nat.{ℕ, suc, _+_, _≤_, _<_}
+use mathlib.Core.Path.{_≡_}
+use mathlib.Core.Bool.{Bool, true, false}
+use mathlib.Core.List.{List, _∷_, _++_}
+use lib.ListN.{length, drop, getD}
+use Rattle.lists.specs.Lists.{member}
+use Rattle.term.specs.declared.binding.Gone.{Gone}
+use Rattle.term.specs.declared.binding.Gone.the-variants.{Past, Broke}
+use Rattle.term.specs.Words.{tagOf, nOf, kOf}
+use Rattle.term.specs.Table.{fits}
+use Rattle.term.specs.Tree.{Terms, wordsOf, count, _then_, end}
+use Rattle.term.specs.Fit.{FitAll}
+use Rattle.term.specs.Binding.{Walk, breaks, passes, andThen, bindsAll, keepsRule, checksAfter, keepsAll}
+
+-- a row of marks says which numbers below its size stand in a list
+pub record Marks (size : ℕ) (marks : List Bool) (numbers : List ℕ) : Type 0 where
+  pub long : length marks ≡ size
+  pub told : (k : ℕ) → k < size → getD marks k false ≡ member k numbers
+
+-- well-shaped terms stand at a position, so many of them
+pub record Stands (l : List ℕ) (at owed : ℕ) (ts : Terms) : Type 0 where
+  pub places : ℕ
+  pub spots : List ℕ
+  pub rest : List ℕ
+  pub fit : FitAll places ts spots
+  pub many : count ts ≡ owed
+  pub row : drop at l ≡ wordsOf ts ++ rest
+
+-- a walk of the code says what a walk of the definitions does; where both pass, they stop there, and what is left is as said
+unfoldable pub Agrees : (stop : ℕ) → (List ℕ → List ℕ → Type 0) → Walk → Gone → Type 0
+Agrees stop left (breaks p) (Broke q) = p ≡ q
+Agrees stop left (breaks p) (Past b) = ⊥
+Agrees stop left (passes a scope checks) (Broke q) = ⊥
+Agrees stop left (passes a scope checks) (Past b) = (a ≡ b) × (b ≡ stop) × left scope checks
+
+unfoldable pub Onward : ℕ → Gone → Type 0
+Onward at (Past b) = at ≤ b
+Onward at (Broke q) = Unit {0}
+
+-- the variables of patterns come into a scope
+pub record Binds (l : List ℕ) (at owed : ℕ) (before after : List Bool) (r : Gone) : Type 0 where
+  pub answer : (ts : Terms) (scope checks : List ℕ) → Stands l at owed ts → Marks 64 before scope
+      → Agrees (at + length (wordsOf ts)) (λ scope′ checks′. Marks 64 after scope′ × (checks′ ≡ checks)) (bindsAll scope ts at checks) r
+  pub onward : Onward at r
+
+-- whether a word keeps its rule
+pub record Rules (w : ℕ) (marks : List Bool) (arities : List ℕ) (unique : Bool) (met : List Bool) (r : Bool) : Type 0 where
+  pub answer : (places spot : ℕ) (scope checks : List ℕ) → fits places spot w ≡ true → Marks 64 marks scope → Marks 256 met checks
+      → r ≡ keepsRule arities unique scope checks (tagOf w) (nOf w) (kOf w)
+
+-- terms outside patterns, all in one scope
+pub record Keeps (l : List ℕ) (at owed : ℕ) (marks : List Bool) (arities : List ℕ) (unique : Bool) (before after : List Bool) (r : Gone) : Type 0 where
+  pub answer : (ts : Terms) (scope checks : List ℕ) → Stands l at owed ts → Marks 64 marks scope → Marks 256 before checks
+      → Agrees (at + length (wordsOf ts)) (λ scope′ checks′. Marks 256 after checks′) (keepsAll arities unique scope ts at checks) r
+  pub onward : Onward at r
+
+-- terms in one scope, then terms in another
+pub record KeepsBoth (l : List ℕ) (at first second : ℕ) (inner outer : List Bool) (arities : List ℕ) (unique : Bool) (before after : List Bool) (r : Gone) : Type 0 where
+  pub answer : (ts us : Terms) (scope scope′ checks : List ℕ) → Stands l at first ts → Stands l (at + length (wordsOf ts)) second us → Marks 64 inner scope → Marks 64 outer scope′ → Marks 256 before checks
+      → Agrees (at + length (wordsOf ts) + length (wordsOf us)) (λ scope″ checks″. Marks 256 after checks″)
+      (andThen (keepsAll arities unique scope ts at checks) (λ at′ scope″ checks′. keepsAll arities unique scope′ us at′ checks′)) r
+  pub onward : Onward at r

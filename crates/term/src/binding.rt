@@ -1,0 +1,215 @@
+// The rules past shape: binding, names of functions, numbers of checks.
+use crate::tables::children;
+use crate::words::APPLY;
+use crate::words::CHECK;
+use crate::words::CLAUSE;
+use crate::words::INTEGER;
+use crate::words::LET;
+use crate::words::SPAWN;
+use crate::words::VARIABLE;
+use crate::words::k;
+use crate::words::n;
+use crate::words::tag;
+ghost use mathlib.Core.Path.{_≡_};
+ghost use mathlib.Core.Bool.{Bool};
+ghost use mathlib.Core.List.{List, _∷_};
+ghost use Prim.Native.Nat.{ℕ};
+ghost use Rattle.term.specs.Words.{tagOf, kOf};
+ghost use Rattle.term.specs.Binding.{names, checksAfter};
+ghost use Rattle.term.specs.Walking.{Marks, Binds, Rules, Keeps, KeepsBoth};
+
+// How many variables and how many check numbers there are.
+pub const VARIABLES: usize = 64;
+
+const NUMBERS: usize = 256;
+
+// Where the words that were gone through end, or the word that breaks a rule.
+pub enum Gone {
+    Past(usize),
+    Broke(usize),
+}
+
+// The scope with one more variable.
+pub fn with(scope: [bool; 64], v: usize) -> [bool; 64]
+    ensures { λ r. ⌜ ((s : List ℕ) → Marks 64 scope s → Marks 64 r (v ∷ s)) ⌝ }
+{
+    let mut inner = scope;
+    if v < VARIABLES {
+        inner[v] = true;
+    }
+    inner
+}
+
+// The variables of so many patterns come into scope, each of them new.
+pub fn bind(row: &[u32], at: usize, owed: usize, scope: &mut [bool; 64]) -> Gone
+    ensures { λ r. ⌜ Binds (now (row .entry)) at owed (now (scope .entry)) (now (scope .exit)) r ⌝ }
+{
+    if owed == 0 {
+        return Gone::Past(at);
+    }
+    if row.len() <= at {
+        return Gone::Broke(at);
+    }
+    if row.len() - at < owed {
+        return Gone::Broke(at);
+    }
+    let w = row[at];
+    let t = tag(w);
+    if t == INTEGER {
+        return bind(row, at + 2, owed - 1, scope);
+    }
+    if t != VARIABLE {
+        return bind(row, at + 1, owed - 1 + children(w), scope);
+    }
+    let v = k(w) as usize;
+    if VARIABLES <= v {
+        return Gone::Broke(at);
+    }
+    if scope[v] {
+        return Gone::Broke(at);
+    }
+    scope[v] = true;
+    bind(row, at + 1, owed - 1, scope)
+}
+
+// Whether a function of this number has so many parameters.
+pub fn named(arities: &[u32], function: usize, count: u32) -> bool
+    ensures { λ r. ⌜ r ≡ names (now (arities .entry)) function count ⌝ }
+{
+    if arities.len() <= function {
+        return false;
+    }
+    arities[function] == count
+}
+
+// Whether a word keeps its rule.
+pub fn keeps_rule(
+    w: u32,
+    scope: [bool; 64],
+    arities: &[u32],
+    unique: bool,
+    checks: &[bool; 256],
+) -> bool
+    ensures { λ r. ⌜ Rules w scope (now (arities .entry)) unique (now (checks .entry)) r ⌝ }
+{
+    let t = tag(w);
+    let v = k(w) as usize;
+    if t == APPLY {
+        return named(arities, v, n(w));
+    }
+    if t == SPAWN {
+        return named(arities, v, n(w));
+    }
+    if t == CHECK {
+        if NUMBERS <= v {
+            return false;
+        }
+        if !unique {
+            return true;
+        }
+        return !checks[v];
+    }
+    if t == VARIABLE {
+        if VARIABLES <= v {
+            return false;
+        }
+        return scope[v];
+    }
+    if t == LET {
+        if VARIABLES <= v {
+            return false;
+        }
+        return !scope[v];
+    }
+    true
+}
+
+// A check's number is met.
+pub fn meet(w: u32, checks: &mut [bool; 256])
+    ensures { λ _. ⌜ ((s : List ℕ) → Marks 256 (now (checks .entry)) s → Marks 256 (now (checks .exit)) (checksAfter (tagOf w) (kOf w) s)) ⌝ }
+{
+    if tag(w) == CHECK {
+        let v = k(w) as usize;
+        if v < NUMBERS {
+            checks[v] = true;
+        }
+    }
+}
+
+// Goes through so many terms outside patterns, from a position on, all in one scope.
+pub fn keep(
+    row: &[u32],
+    at: usize,
+    owed: usize,
+    scope: [bool; 64],
+    arities: &[u32],
+    unique: bool,
+    checks: &mut [bool; 256],
+) -> Gone
+    ensures { λ r. ⌜ Keeps (now (row .entry)) at owed scope (now (arities .entry)) unique (now (checks .entry)) (now (checks .exit)) r ⌝ }
+{
+    if owed == 0 {
+        return Gone::Past(at);
+    }
+    if row.len() <= at {
+        return Gone::Broke(at);
+    }
+    if row.len() - at < owed {
+        return Gone::Broke(at);
+    }
+    let w = row[at];
+    let t = tag(w);
+    if t == INTEGER {
+        return keep(row, at + 2, owed - 1, scope, arities, unique, checks);
+    }
+    if !keeps_rule(w, scope, arities, unique, checks) {
+        return Gone::Broke(at);
+    }
+    if t == LET {
+        let bound = keep(row, at + 1, 1, scope, arities, unique, checks);
+        let Gone::Past(a) = bound else {
+            return bound;
+        };
+        let inner = with(scope, k(w) as usize);
+        return keep_both(row, a, 1, owed - 1, inner, scope, arities, unique, checks);
+    }
+    if t == CLAUSE {
+        let mut inner = scope;
+        let pattern = bind(row, at + 1, 1, &mut inner);
+        let Gone::Past(a) = pattern else {
+            return pattern;
+        };
+        return keep_both(row, a, 2, owed - 1, inner, scope, arities, unique, checks);
+    }
+    meet(w, checks);
+    keep(
+        row,
+        at + 1,
+        owed - 1 + children(w),
+        scope,
+        arities,
+        unique,
+        checks,
+    )
+}
+
+// Goes through so many terms in an inner scope, then through so many in the outer one.
+pub fn keep_both(
+    row: &[u32],
+    at: usize,
+    first: usize,
+    second: usize,
+    inner: [bool; 64],
+    outer: [bool; 64],
+    arities: &[u32],
+    unique: bool,
+    checks: &mut [bool; 256],
+) -> Gone
+    ensures { λ r. ⌜ KeepsBoth (now (row .entry)) at first second inner outer (now (arities .entry)) unique (now (checks .entry)) (now (checks .exit)) r ⌝ }
+{
+    let one = keep(row, at, first, inner, arities, unique, checks);
+    let Gone::Past(a) = one else {
+        return one;
+    };
+    keep(row, a, second, outer, arities, unique, checks)
+}
