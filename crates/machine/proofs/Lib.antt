@@ -8,3 +8,5 @@ pub mod RowCopy
 pub mod RowOperand
 pub mod RowGuard
 pub mod RowClause
+pub mod RowNext
+pub mod RowStep

@@ -119,8 +119,8 @@ parts-at c at t i s =
       plain-guard = p .2 .1 .0;
       plain-body = p .2 .1 .1 .0;
       on-pattern =
-        q .on ∙ ap (λ (us : Terms). wordsOf us ++ s .rest) (all-end (i .pattern then (i .guard then (i .body then end)))) ∙ ap (λ (l : List ℕ). l ++ s .rest) (three-words (i .pattern) (i .guard) (i .body))
-        ∙ append-assoc (words (i .pattern)) (words (i .guard) ++ words (i .body)) (s .rest) ∙ ap (λ (l : List ℕ). words (i .pattern) ++ l) (append-assoc (words (i .guard)) (words (i .body)) (s .rest));
+          q .on ∙ ap (λ (us : Terms). wordsOf us ++ s .rest) (all-end (i .pattern then (i .guard then (i .body then end)))) ∙ ap (λ (l : List ℕ). l ++ s .rest) (three-words (i .pattern) (i .guard) (i .body))
+          ∙ append-assoc (words (i .pattern)) (words (i .guard) ++ words (i .body)) (s .rest) ∙ ap (λ (l : List ℕ). words (i .pattern) ++ l) (append-assoc (words (i .guard)) (words (i .body)) (s .rest));
     }
 
 -- no variable is bound at the start

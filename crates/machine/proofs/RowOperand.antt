@@ -385,11 +385,11 @@ module _ (here there : List ℕ) (x y : Operand) where
   equal-stuck e o q a b = sym (ap (λ (z : Option Term). sameSome z q) (gives-stuck x e here there o a))
 
 -- ---- operators that need integers
-short-is-node : (w x : ℕ) → ¬ (w ≡ integerWord) → shortTerm w x ≡ node (tagOf w) (nOf w) (kOf w) end
+pub short-is-node : (w x : ℕ) → ¬ (w ≡ integerWord) → shortTerm w x ≡ node (tagOf w) (nOf w) (kOf w) end
 unfolding shortTerm
 short-is-node w x d = rw (eqb-apart w integerWord d)
 
-short-is-integer : (w x : ℕ) → w ≡ integerWord → shortTerm w x ≡ int x
+pub short-is-integer : (w x : ℕ) → w ≡ integerWord → shortTerm w x ≡ int x
 unfolding shortTerm
 short-is-integer w x e = rw (eqb-of w integerWord e)
 

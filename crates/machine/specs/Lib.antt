@@ -11,6 +11,8 @@ pub mod Rows
 pub mod Operands
 pub mod Guards
 pub mod Clausal
+pub mod Nexts
+pub mod Steps
 pub mod Opened
 pub mod Laws
 pub mod Cases

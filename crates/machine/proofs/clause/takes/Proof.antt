@@ -10,7 +10,7 @@ use Rattle.machine.proofs.RowClause.{takes-past, takes-not, takes-holds
 use native.Mathlib.Omega.{arith}
 
 pub takes-spec : {M : Type 1} → statement M
-takes-spec = tie.close (tie.spec 
+takes-spec = tie.close (tie.spec
     (λ c. search takes-past)
     (λ c. search needs)
     (λ c. search needs)
