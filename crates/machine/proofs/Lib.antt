@@ -10,3 +10,5 @@ pub mod RowGuard
 pub mod RowClause
 pub mod RowNext
 pub mod RowStep
+pub mod RowSplit
+pub mod RowWork

@@ -50,14 +50,14 @@ pub fitted-large : (r room : ℕ) → room < r → TooLarge ≡ fittedOf r room
 unfolding fittedOf
 fitted-large r room h = sym (cond-false (Row r) TooLarge (leb-over r room h))
 
-wrote-next : (row old new : List ℕ) (m : ℕ) (s : Next) → Wrote row 0 old new m → s ≡ fittedOf m (length old) → WroteNext row old new s
+pub wrote-next : (row old new : List ℕ) (m : ℕ) (s : Next) → Wrote row 0 old new m → s ≡ fittedOf m (length old) → WroteNext row old new s
 wrote-next row old new m s w e = record { new-is = w .new-is; answer = e ∙ go (decLe (length row) (length old)) }
   where
     go : Dec (length row ≤ length old) → fittedOf m (length old) ≡ fittedOf (length row) (length old)
     go (yes h) = ap (λ (j : ℕ). fittedOf j (length old)) (omega (arith, w .ends))
     go (no h) = sym (fitted-large m (length old) (omega (arith, w .ends))) ∙ fitted-large (length row) (length old) (omega arith)
 
-next-some : (c : List ℕ) (at : ℕ) (t u : Term) (o : Option Term) (old new : List ℕ) (s : Next) → o ≡ some u → WroteNext (rowWith c at t (words u)) old new s → NextIs c at t o old new s
+pub next-some : (c : List ℕ) (at : ℕ) (t u : Term) (o : Option Term) (old new : List ℕ) (s : Next) → o ≡ some u → WroteNext (rowWith c at t (words u)) old new s → NextIs c at t o old new s
 unfolding NextIs
 next-some c at t u o old new s e w = subst (λ (p : Option Term). NextIs c at t p old new s) (sym e) w
 
@@ -66,31 +66,31 @@ unfolding NextIs
 next-none c at t o old e = subst (λ (p : Option Term). NextIs c at t p old old noNext) (sym e) (refl, refl)
 
 -- ---- the children of a node in its row
-record ChildrenAt (c : List ℕ) (at tag n k : ℕ) (ts : Terms) : Type 0 where
+pub record ChildrenAt (c : List ℕ) (at tag n k : ℕ) (ts : Terms) : Type 0 where
   pub rest : List ℕ
   pub n-is : nOf (getD c at 0) ≡ n
   pub k-is : kOf (getD c at 0) ≡ k
   pub plain : PlainAll ts
   pub on : drop (at + 1) c ≡ wordsOf ts ++ rest
 
-children-at : (c : List ℕ) (at tag n k : ℕ) (ts : Terms) → Stands c at (node tag n k ts) → ChildrenAt c at tag n k ts
+pub children-at : (c : List ℕ) (at tag n k : ℕ) (ts : Terms) → Stands c at (node tag n k ts) → ChildrenAt c at tag n k ts
 unfolding Plain
 children-at c at tag n k ts s =
     let q = node-at c at 1 _ tag n k ts end (s .rest) (s .plain .0) (one-term (node tag n k ts)) (as-row c at (node tag n k ts) (s .rest) (s .here)) refl in
     record { rest = s .rest; n-is = q .n-is; k-is = q .k-is; plain = s .plain .2; on = q .on ∙ ap (λ (us : Terms). wordsOf us ++ s .rest) (all-end ts) }
 
 -- the first of the children, and those after it
-first-stands : (c : List ℕ) (at : ℕ) (t : Term) (ts : Terms) (rest : List ℕ) → PlainAll (t then ts) → drop at c ≡ wordsOf (t then ts) ++ rest → Stands c at t
+pub first-stands : (c : List ℕ) (at : ℕ) (t : Term) (ts : Terms) (rest : List ℕ) → PlainAll (t then ts) → drop at c ≡ wordsOf (t then ts) ++ rest → Stands c at t
 unfolding PlainAll wordsOf
 first-stands c at t ts rest p e = record { plain = p .0; rest = wordsOf ts ++ rest; here = e ∙ append-assoc (words t) (wordsOf ts) rest }
 
-others-on : (c : List ℕ) (at next : ℕ) (t : Term) (ts : Terms) (rest : List ℕ) → PlainAll (t then ts) → drop at c ≡ wordsOf (t then ts) ++ rest → next ≡ at + passed (drop at c) 1 → drop next c ≡ wordsOf ts ++ rest
+pub others-on : (c : List ℕ) (at next : ℕ) (t : Term) (ts : Terms) (rest : List ℕ) → PlainAll (t then ts) → drop at c ≡ wordsOf (t then ts) ++ rest → next ≡ at + passed (drop at c) 1 → drop next c ≡ wordsOf ts ++ rest
 unfolding PlainAll wordsOf
 others-on c at next t ts rest p e q =
     let d = e ∙ append-assoc (words t) (wordsOf ts) rest in
     ap (λ (j : ℕ). drop j c) (one-skip c at next t (wordsOf ts ++ rest) q (plain-whole t (p .0)) d) ∙ past-term c at t (wordsOf ts ++ rest) d
 
-others-plain : (t : Term) (ts : Terms) → PlainAll (t then ts) → PlainAll ts
+pub others-plain : (t : Term) (ts : Terms) → PlainAll (t then ts) → PlainAll ts
 unfolding PlainAll
 others-plain t ts p = p .1
 
@@ -232,11 +232,11 @@ found v env guard body taken o true m e = (m .0, held (guardHolds (bind (m .0) g
     held false t q = none-not-some q
 found v env guard body taken o false m e = none-not-some (sym (ap (λ (p : Option Bindings). bodyUnder p guard body) m) ∙ e)
 
-chosen-clause : (c : List ℕ) (u : Term) (clauses : Terms) (r : Chosen) (i : ℕ) → r ≡ Clause i → ChosenIs c u clauses r → Takes c i u clauses
+pub chosen-clause : (c : List ℕ) (u : Term) (clauses : Terms) (r : Chosen) (i : ℕ) → r ≡ Clause i → ChosenIs c u clauses r → Takes c i u clauses
 unfolding ChosenIs
 chosen-clause c u clauses r i e h = subst (ChosenIs c u clauses) e h
 
-chosen-nothing : (c : List ℕ) (u : Term) (clauses : Terms) (r : Chosen) → r ≡ Nothing → ChosenIs c u clauses r → firstClause u clauses ≡ none
+pub chosen-nothing : (c : List ℕ) (u : Term) (clauses : Terms) (r : Chosen) → r ≡ Nothing → ChosenIs c u clauses r → firstClause u clauses ≡ none
 unfolding ChosenIs
 chosen-nothing c u clauses r e h = subst (ChosenIs c u clauses) e h
 

@@ -13,6 +13,7 @@ pub mod Guards
 pub mod Clausal
 pub mod Nexts
 pub mod Steps
+pub mod Controls
 pub mod Opened
 pub mod Laws
 pub mod Cases

@@ -9,3 +9,4 @@ pub mod operand;
 pub mod place;
 pub mod same;
 pub mod step;
+pub mod work;
