@@ -12,3 +12,4 @@ pub mod RowNext
 pub mod RowStep
 pub mod RowSplit
 pub mod RowWork
+pub mod RowBecomes

@@ -272,7 +272,7 @@ module _ (c : List ℕ) (at : ℕ) where
         (λ z. a (q ∙ z)) (λ z. b (q ∙ z)) (λ z. d (q ∙ z)) (λ z. e (q ∙ z)) (λ z. f (q ∙ z)) (λ z. g (q ∙ z)) (λ z. h (q ∙ z)) (λ z. i (q ∙ z)) (λ z. j (q ∙ z)))))
 
 -- ---- a whole control
-work-value : (functions : Terms) (t : Term) → isValue t ≡ true → workOf functions t ≡ finished
+pub work-value : (functions : Terms) (t : Term) → isValue t ≡ true → workOf functions t ≡ finished
 unfolding workOf
 work-value functions t v = go (isValue t) v
   where
@@ -280,7 +280,7 @@ work-value functions t v = go (isValue t) v
     go true e = refl
     go false e = true-not-false e refl
 
-work-not : (functions : Terms) (t : Term) → isValue t ≡ false → workOf functions t ≡ workAt functions t (working t)
+pub work-not : (functions : Terms) (t : Term) → isValue t ≡ false → workOf functions t ≡ workAt functions t (working t)
 unfolding workOf
 work-not functions t v = go (isValue t) v
   where
@@ -297,7 +297,7 @@ finished-is : (w : Work) → w ≡ finished → Finished ≡ doingOf w
 unfolding doingOf
 finished-is w e = rw e
 
-work-reads : (module′ c : List ℕ) (t : Term) → termOf c ≡ t → work module′ c ≡ workOf (termsOf module′) t
+pub work-reads : (module′ c : List ℕ) (t : Term) → termOf c ≡ t → work module′ c ≡ workOf (termsOf module′) t
 unfolding work
 work-reads module′ c t e = ap (workOf (termsOf module′)) e
 

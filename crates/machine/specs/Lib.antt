@@ -14,6 +14,7 @@ pub mod Clausal
 pub mod Nexts
 pub mod Steps
 pub mod Controls
+pub mod Becomes
 pub mod Opened
 pub mod Laws
 pub mod Cases

@@ -1,5 +1,6 @@
 // One process step on rows of words: what a control is about to do, and what it becomes.
 pub mod clause;
+pub mod control;
 pub mod copy;
 pub mod guard;
 pub mod integer;

@@ -24,7 +24,7 @@ pub enum Next {
     Row(usize),
 }
 
-fn fitted(r: usize, room: usize) -> Next
+pub fn fitted(r: usize, room: usize) -> Next
     ensures { λ s. ⌜ s ≡ fittedOf r room ⌝ }
 {
     if r <= room {
