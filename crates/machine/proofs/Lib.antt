@@ -15,3 +15,5 @@ pub mod RowWork
 pub mod RowBecomes
 pub mod RowApply
 pub mod RowSeq
+pub mod RowSend
+pub mod RowChild

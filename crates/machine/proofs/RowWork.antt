@@ -152,7 +152,7 @@ module _ (functions : Terms) (whole : Term) (tag n k : ℕ) (ts : Terms) where
   unfolding workAt doingOf
   work-spawn e = rw e
 
-  work-send : tag ≡ tagSend → workAt functions whole (node tag n k ts) ≡ sendWork whole ts
+  pub work-send : tag ≡ tagSend → workAt functions whole (node tag n k ts) ≡ sendWork whole ts
   unfolding workAt
   work-send e = rw e
 
@@ -186,7 +186,7 @@ pub case-two : (ts : Terms) (subject : Term) (clauses : Terms) → ts ≡ subjec
 unfolding caseGives
 case-two ts subject clauses e = rw e
 
-send-two : (whole : Term) (ts : Terms) (p : Pair ts) → sendWork whole ts ≡ sendTo whole (p .one) (p .two)
+pub send-two : (whole : Term) (ts : Terms) (p : Pair ts) → sendWork whole ts ≡ sendTo whole (p .one) (p .two)
 unfolding sendWork
 send-two whole ts p = rw (p .are)
 

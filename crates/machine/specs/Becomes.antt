@@ -1,10 +1,10 @@
 -- What the functions that write the next control promise, in the words of `work`. Assumes nothing: these are definitions.
-use Prim.Native.Nat.{ℕ}
+use Prim.Native.Nat.{ℕ, _-_}
 use mathlib.Core.Path.{_≡_}
 use mathlib.Core.Bool.{true, false}
 use mathlib.Core.Option.{Option, none, some}
 use mathlib.Core.List.{List, [], _∷_}
-use lib.ListN.{length}
+use lib.ListN.{length, drop, take}
 use Rattle.term.specs.Tree.{Term, Terms, node, words}
 use Rattle.term.specs.Read.{termOf, termsOf}
 use Rattle.term.specs.Value.{isValue}
@@ -13,6 +13,7 @@ use Rattle.machine.specs.Work.{Work, finished, stuck, toSeq, toSend, toR
 use Rattle.machine.specs.Rows.{Plain}
 use Rattle.machine.specs.Steps.{WroteNext, ModuleIs}
 use Rattle.machine.specs.Controls.{ControlIs}
+use Rattle.machine.specs.declared.control.Extent.{Extent}
 use Rattle.machine.specs.declared.step.Next.{Next}
 use Rattle.machine.specs.declared.step.Next.the-variants.{Nothing}
 
@@ -50,3 +51,18 @@ SeqIs (toCheck number row) old new r = Unit {0}
 
 unfoldable pub SeqNext : (module′ c old new : List ℕ) → Next → Type 0
 SeqNext module′ c old new r = (functions : Terms) (t : Term) → ModuleIs module′ functions → ControlIs (termsOf module′) c t → SeqIs (work module′ c) old new r
+
+-- the value's extent in the control
+unfoldable pub Sent : (c : List ℕ) → Extent → Type 0
+Sent c r =
+    (module′ : List ℕ) (t : Term) (target : ℕ) (value row : List ℕ) → ControlIs (termsOf module′) c t → work module′ c ≡ toSend target value row
+    → take (r .to - r .from) (drop (r .from) c) ≡ value
+
+unfoldable pub SendNext : (c old new : List ℕ) → Next → Type 0
+SendNext c old new r =
+    (module′ : List ℕ) (t : Term) (target : ℕ) (value row : List ℕ) → ControlIs (termsOf module′) c t → work module′ c ≡ toSend target value row → WroteNext row old new r
+
+-- the first control of a spawn's child
+unfoldable pub ChildNext : (c old new : List ℕ) → Next → Type 0
+ChildNext c old new r =
+    (module′ : List ℕ) (t : Term) (first : List ℕ) (rows : ℕ → List ℕ) → ControlIs (termsOf module′) c t → work module′ c ≡ toSpawn first rows → WroteNext first old new r
