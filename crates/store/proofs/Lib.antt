@@ -23,3 +23,7 @@ pub mod Births
 pub mod SlotSends
 pub mod Loading
 pub mod LayoutLaws
+pub mod ZerosLaws
+pub mod WellTestSlot
+pub mod WellTestBlock
+pub mod WellTestStore

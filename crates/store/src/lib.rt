@@ -1,3 +1,6 @@
 // The store: the one image of a state in a lent slice.
+pub mod fill;
 pub mod layout;
 pub mod slot;
+pub mod well_formed;
+pub mod zeros;
