@@ -27,3 +27,5 @@ pub mod ZerosLaws
 pub mod WellTestSlot
 pub mod WellTestBlock
 pub mod WellTestStore
+pub mod LoadCodeWords
+pub mod LoadCodeAnswers

@@ -3,3 +3,4 @@ pub mod Image
 pub mod Cases
 pub mod Sizing
 pub mod Formed
+pub mod Loading
