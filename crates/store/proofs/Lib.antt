@@ -29,3 +29,4 @@ pub mod WellTestBlock
 pub mod WellTestStore
 pub mod LoadCodeWords
 pub mod LoadCodeAnswers
+pub mod WellTestRead

@@ -7,7 +7,7 @@ use mathlib.Core.List.{List, _++_}
 use native.Mathlib.Omega.{arith}
 use lib.Dec.{leb}
 use lib.ListN.{length, drop}
-use Rattle.lists.proofs.Tests.{true-not-false, leb-of, leb-over, and-of, not-true, not-false}
+use Rattle.lists.proofs.Tests.{leb-of, leb-over, and-of, not-true, not-false}
 use Rattle.term.specs.Module.{checkModule}
 use Rattle.term.specs.Checking.{badOf}
 use Rattle.term.specs.declared.module.Checked.{Checked}

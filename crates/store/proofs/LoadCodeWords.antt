@@ -1,23 +1,23 @@
 -- What a load writes: three runs of words that are the image of the loaded state.
-use Prim.Native.Nat.{ℕ, zero, suc, _+_, _-_, _*_, _≤_, _<_}
-use mathlib.Core.Path.{_≡_, refl, sym, _∙_, ap, subst}
+use Prim.Native.Nat.{ℕ, zero, suc, _+_, _-_, _*_, _≤_}
+use mathlib.Core.Path.{_≡_, refl, sym, _∙_, ap}
 use mathlib.Core.Bool.{true}
-use mathlib.Core.List.{List, [], _∷_, _++_, append-assoc, append-nil}
+use mathlib.Core.List.{List, [], _∷_, _++_, append-assoc}
 use native.Mathlib.Nat.{zero-mul}
 use native.Mathlib.Omega.{arith}
 use borrow.Rule.Slice.PartMut.{midOf, putMid}
 use lib.ListN.{length, take, drop, replicate, length-append, length-drop, length-replicate, replicate-append-replicate}
 use lib.Seq.{length-take-le, drop-at}
 use Rattle.lists.specs.Fill.{fillTo}
-use Rattle.lists.proofs.Fill.{length-fill, fill-none}
+use Rattle.lists.proofs.Fill.{fill-none}
 use Rattle.lists.proofs.Blocks.{block-in, put-next, put-behind}
 use Rattle.term.specs.Words.{word, tagApply}
 use Rattle.term.specs.Module.{longestModule}
 use Rattle.rules.specs.State.{Sizes}
 use Rattle.rules.specs.Load.{goodSizes, newProcess, firstControl, loaded}
-use Rattle.store.specs.Layout.{headWords, blocksFrom, slotHead, namesRoom, slotSize, slotCount, blockSize, needed, kindLive, slotWords, presentSlot, head, image}
+use Rattle.store.specs.Layout.{blocksFrom, namesRoom, slotSize, slotCount, blockSize, needed, kindLive, slotWords, presentSlot, head, image}
 use Rattle.store.proofs.SoundStates.{sizes-in}
-use Rattle.store.proofs.Lengths.{length-slot, length-head}
+use Rattle.store.proofs.Lengths.{length-head}
 use Rattle.store.proofs.Loading.{loaded-image}
 
 -- ---- filling further

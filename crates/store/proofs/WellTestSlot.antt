@@ -1,21 +1,20 @@
 -- The test of a slot: what each of its answers stands on.
 use Prim.Native.Nat.{ℕ, _+_, _-_, _*_, _≤_, _<_}
-use mathlib.Core.Path.{_≡_, refl, sym, _∙_, ap, subst}
+use mathlib.Core.Path.{_≡_, sym, _∙_, ap, subst}
 use mathlib.Core.Bool.{Bool, true, false, not}
 use mathlib.Core.List.{List, [], _∷_}
 use native.Mathlib.Omega.{arith}
-use lib.ListN.{length, take, drop, getD, length-drop}
-use lib.Seq.{drop-drop, drop-cons, take-all, length-take-le, getD-take, getD-drop}
+use lib.ListN.{length, take, drop, getD}
+use lib.Seq.{drop-drop, drop-cons}
 use borrow.Rule.Slice.PartMut.{midOf}
 use Rattle.lists.specs.Lists.{All}
 use Rattle.lists.specs.Decides.{Decides}
 use Rattle.lists.proofs.Tests.{not-true, not-false}
 use Rattle.lists.proofs.Blocks.{drop-take}
-use Rattle.lists.proofs.Decides.{yes-to, no-to, refuted, by}
-use Rattle.store.specs.Layout.{slotHead, namesRoom, slotSize}
+use Rattle.lists.proofs.Decides.{no-to, refuted, by}
+use Rattle.store.specs.Layout.{slotHead, slotSize}
 use Rattle.store.specs.Sizing.{sizesOf}
 use Rattle.store.specs.Formed.{IsZero, WellSlot}
-use Rattle.store.proofs.ZerosLaws.{zeros-all, zeros-each}
 
 -- ---- three words
 

@@ -1,6 +1,6 @@
 -- The test of a whole store: block after block, and the words before them.
-use Prim.Native.Nat.{ℕ, zero, suc, _+_, _-_, _*_, _≤_, _<_}
-use mathlib.Core.Path.{_≡_, refl, sym, _∙_, ap, subst}
+use Prim.Native.Nat.{ℕ, _+_, _-_, _*_, _≤_, _<_}
+use mathlib.Core.Path.{_≡_, sym, _∙_, ap, subst}
 use mathlib.Core.Bool.{Bool, true, false, not}
 use mathlib.Core.List.{List}
 use native.Mathlib.Omega.{arith}
@@ -11,7 +11,7 @@ use lib.Seq.{length-take-le}
 use Rattle.lists.specs.Lists.{All}
 use Rattle.lists.specs.Decides.{Decides}
 use Rattle.lists.proofs.Tests.{true-not-false, not-true, not-false}
-use Rattle.lists.proofs.Blocks.{block-in, drop-take}
+use Rattle.lists.proofs.Blocks.{block-in}
 use Rattle.lists.proofs.Decides.{yes-to, no-to, refuted, by}
 use Rattle.term.specs.Module.{longestModule}
 use Rattle.rules.specs.State.{Sizes}

@@ -6,7 +6,7 @@ use mathlib.Core.List.{List, _++_}
 use lib.Dec.{leb}
 use lib.ListN.{length, drop}
 use Rattle.rules.specs.Answers.{done, badModule, badSizes}
-use Rattle.rules.specs.State.{Sizes, State}
+use Rattle.rules.specs.State.{Sizes}
 use Rattle.rules.specs.Load.{goodSizes, Load, refused, loads, load}
 use Rattle.store.specs.Layout.{needed, image}
 use Rattle.store.specs.declared.load.Loaded.{Loaded}

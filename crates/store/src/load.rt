@@ -9,7 +9,6 @@ use term::module::Checked;
 use term::module::check_module;
 use term::words::APPLY;
 use term::words::word_of;
-ghost use Prim.Native.Nat.{ℕ};
 ghost use Rattle.store.specs.Sizing.{sizesOf};
 ghost use Rattle.store.specs.Loading.{LoadAnswers};
 
