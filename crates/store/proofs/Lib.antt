@@ -30,3 +30,4 @@ pub mod WellTestStore
 pub mod LoadCodeWords
 pub mod LoadCodeAnswers
 pub mod WellTestRead
+pub mod LoadCodeSound

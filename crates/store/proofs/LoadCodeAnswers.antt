@@ -26,11 +26,11 @@ module _ (module′ : List ℕ) (sizes : Sizes) (l : List ℕ) where
   answers : (x : List ℕ) (r : Loaded) (o : Outcome) → loadInto module′ sizes l ≡ o → numberOf r ≡ o .number → valueOf r ≡ o .value → x ≡ o .left → LoadAnswers module′ sizes l x r
   answers x r o e a b c = record { number = a ∙ ap (λ (y : Outcome). y .number) (sym e); value = b ∙ ap (λ (y : Outcome). y .value) (sym e); left = c ∙ ap (λ (y : Outcome). y .left) (sym e) }
 
-  into-short : (goodSizes sizes && leb (needed sizes) (length l)) ≡ false → loadInto module′ sizes l ≡ record { number = badSizes; value = 0; left = l }
+  pub into-short : (goodSizes sizes && leb (needed sizes) (length l)) ≡ false → loadInto module′ sizes l ≡ record { number = badSizes; value = 0; left = l }
   unfolding loadInto
   into-short e = rw (e, loadInto) refl
 
-  into-load : (goodSizes sizes && leb (needed sizes) (length l)) ≡ true → loadInto module′ sizes l ≡ afterLoad l (load module′ sizes)
+  pub into-load : (goodSizes sizes && leb (needed sizes) (length l)) ≡ true → loadInto module′ sizes l ≡ afterLoad l (load module′ sizes)
   unfolding loadInto
   into-load e = rw (e, loadInto) refl
 
@@ -45,10 +45,10 @@ module _ (module′ : List ℕ) (sizes : Sizes) (l : List ℕ) where
   unfolding load
   chosen g = ap (λ (b : Bool). elim b as (λ x. Load) [ false ↦ refused badSizes 0 | true ↦ onModule (checkModule module′) ]) g
 
-  load-refused : (at : ℕ) → goodSizes sizes ≡ true → checkModule module′ ≡ some at → load module′ sizes ≡ refused badModule at
+  pub load-refused : (at : ℕ) → goodSizes sizes ≡ true → checkModule module′ ≡ some at → load module′ sizes ≡ refused badModule at
   load-refused at g e = chosen g ∙ ap onModule e
 
-  load-loads : goodSizes sizes ≡ true → checkModule module′ ≡ none → load module′ sizes ≡ loads (loaded module′ sizes)
+  pub load-loads : goodSizes sizes ≡ true → checkModule module′ ≡ none → load module′ sizes ≡ loads (loaded module′ sizes)
   load-loads g e = chosen g ∙ ap onModule e
 
 -- a module that passes fits its room
@@ -56,7 +56,7 @@ pub good-short : (module′ : List ℕ) (checked : Checked) → badOf checked �
 unfolding badOf
 good-short module′ checked ec e = module-short module′ (sym ec ∙ ap badOf e)
 
-and-short : (a b : Bool) → b ≡ false → (a && b) ≡ false
+pub and-short : (a b : Bool) → b ≡ false → (a && b) ≡ false
 and-short true b e = e
 and-short false b e = refl
 
