@@ -22,3 +22,4 @@ pub mod Tested
 pub mod Births
 pub mod SlotSends
 pub mod Loading
+pub mod FlowTest

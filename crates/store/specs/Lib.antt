@@ -1,3 +1,4 @@
 pub mod Layout
 pub mod Image
 pub mod Cases
+pub mod SoundTests

@@ -1,1 +1,2 @@
-// Definitions only: see specs/ and proofs/.
+// The store: the one image of a state in a lent slice.
+pub mod flows;
