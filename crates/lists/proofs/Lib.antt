@@ -6,3 +6,4 @@ pub mod All
 pub mod Fill
 pub mod Blocks
 pub mod Counts
+pub mod Decides

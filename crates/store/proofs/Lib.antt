@@ -23,3 +23,4 @@ pub mod Births
 pub mod SlotSends
 pub mod Loading
 pub mod FlowTest
+pub mod LayoutLaws

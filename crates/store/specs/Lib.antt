@@ -2,3 +2,4 @@ pub mod Layout
 pub mod Image
 pub mod Cases
 pub mod SoundTests
+pub mod Sizing

@@ -1,2 +1,4 @@
 // The store: the one image of a state in a lent slice.
 pub mod flows;
+pub mod layout;
+pub mod slot;
