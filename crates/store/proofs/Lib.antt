@@ -24,3 +24,4 @@ pub mod SlotSends
 pub mod Loading
 pub mod FlowTest
 pub mod LayoutLaws
+pub mod SoundTestWalk

@@ -24,6 +24,15 @@ controlIn w = take (getD w 1 0) (drop slotHead w)
 abbrev pub namesIn : ℕ → List ℕ → List ℕ
 namesIn words w = take (getD w 4 0) (drop (slotHead + words) w)
 
+-- the names of a slot stand in it
+abbrev pub NamesFit : ℕ → List ℕ → Type 0
+NamesFit words w = slotHead + words + getD w 4 0 ≤ length w
+
+-- so many slots of one size, each with its names
+pub record Slots (words size count : ℕ) (slots : List ℕ) : Type 0 where
+  pub long : length slots ≡ count * size
+  pub names-fit : All (NamesFit words) (chop count size slots)
+
 -- ---- flows
 
 -- a list of words begins with another
@@ -34,4 +43,10 @@ begins (x ∷ xs) (y ∷ ys) = eqb x y && begins xs ys
 
 -- a queue without the message at a place is a prefix of another
 unfoldable pub leftBegins : ℕ → List ℕ → List ℕ → Bool
-leftBegins taken before after = ltb taken (length before) && begins (take taken before ++ drop (suc taken) before) after
+leftBegins taken before after = begins (take taken before ++ drop (suc taken) before) after
+
+-- what the last rec left, the slots of entries after it, and the present queue
+unfoldable pub flowsOn : ℕ → ℕ → List ℕ → List (List ℕ) → List ℕ → Bool
+flowsOn words taken before [] present = leftBegins taken before present
+flowsOn words taken before (w ∷ ws) present =
+    cond (eqb (kindWord w) kindRec) (leftBegins taken before (namesIn words w) && flowsOn words (numberWord w) (namesIn words w) ws present) (flowsOn words taken before ws present)

@@ -1,6 +1,12 @@
 // Flows: what a rec left is a prefix of the queue before the next rec, or of the present one.
+use crate::layout::REC;
+use crate::layout::SLOT_HEAD;
 ghost use mathlib.Core.Path.{_≡_};
-ghost use Rattle.store.specs.SoundTests.{begins as beginsWith, leftBegins};
+ghost use mathlib.Core.List.{[]};
+ghost use Prim.Native.Nat.{_≤_};
+ghost use lib.ListN.{length, drop};
+ghost use Rattle.lists.proofs.Blocks.{chop};
+ghost use Rattle.store.specs.SoundTests.{NamesFit, Slots, namesIn, begins as beginsWith, leftBegins, flowsOn};
 
 // Whether a list of words begins with another.
 fn begins(front: &[u32], whole: &[u32]) -> bool
@@ -24,11 +30,37 @@ fn left_begins(before: &[u32], taken: usize, after: &[u32]) -> bool
     ensures { λ r. ⌜ r ≡ leftBegins taken (now (before .entry)) (now (after .entry)) ⌝ }
 {
     if before.len() <= taken {
-        return false;
+        return begins(before, after);
     }
     if begins(&before[..taken], after) {
         begins(&before[taken + 1..], &after[taken..])
     } else {
         false
     }
+}
+
+// The recs among the entries of a place, oldest first, and the present queue after them.
+fn place_flows(block: &[u32], count: usize, size: usize, words: usize) -> bool
+    requires { ⌜ NamesFit words (now block) × (size ≤ length (now block)) × Slots words size count (drop size (now block)) ⌝ }
+    ensures { λ r. ⌜ r ≡ flowsOn words 0 [] (chop count size (drop size (now (block .entry)))) (namesIn words (now (block .entry))) ⌝ }
+{
+    let from = SLOT_HEAD + words;
+    let mut before = &block[0..0];
+    let mut taken = 0;
+    let mut t = &block[size..];
+    let mut left = count;
+    while 0 < left {
+        if t[0] == REC {
+            let names = &t[from..from + t[4] as usize];
+            if left_begins(before, taken, names) {
+                before = names;
+                taken = t[2] as usize;
+            } else {
+                return false;
+            }
+        }
+        t = &t[size..];
+        left -= 1;
+    }
+    left_begins(before, taken, &block[from..from + block[4] as usize])
 }
