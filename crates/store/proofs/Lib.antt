@@ -25,3 +25,6 @@ pub mod Loading
 pub mod FlowTest
 pub mod LayoutLaws
 pub mod SoundTestWalk
+pub mod SoundTestShape
+pub mod SoundTestBirths
+pub mod MessageTest

@@ -1,0 +1,42 @@
+-- The test of messages that came: what the code answers for a name, a queue and the slots of a place.
+use Prim.Native.Nat.{ℕ, _+_, _*_, _/_, _%_, _≤_, _<_}
+use mathlib.Core.Path.{_≡_, refl, sym, _∙_, ap}
+use mathlib.Core.Bool.{Bool, true, false, cond}
+use mathlib.Core.Option.{Option, none, some}
+use mathlib.Core.List.{List}
+use native.Mathlib.Omega.{arith}
+use lib.Dec.{eqb, ltb}
+use lib.ListN.{length, getD, set}
+use Rattle.lists.proofs.Tests.{eqb-of, eqb-apart, ltb-of, ltb-over, cond-true, cond-false}
+use Rattle.lists.proofs.Blocks.{block-in}
+use Rattle.store.specs.Layout.{nameBase, kindRec}
+use Rattle.store.specs.SoundTests.{answered, arriveAt, arriveOne}
+
+-- where a sender's send of a count is noted
+pub name-in : (places entries sender count n : ℕ) → places * entries ≤ n → sender < places → count < entries → sender * entries + count < n
+name-in places entries sender count n h s c = omega (arith, block-in sender places entries s)
+
+pub name-in-16 : (places entries sender count : ℕ) → places * entries ≤ 1024 → sender < places → count < entries → sender * entries + count < 1024
+name-in-16 places entries sender count h s c = name-in places entries sender count 1024 h s c
+
+module _ (places entries place name : ℕ) (targets : List ℕ) where
+  pub arrive-sender : (x : List ℕ) → places ≤ name / nameBase → answered false x ≡ arriveOne places entries place name targets
+  unfolding answered arriveOne
+  arrive-sender x h = sym (cond-false _ _ (ltb-over (name / nameBase) places h))
+
+  pub arrive-count : (x : List ℕ) → name / nameBase < places → entries ≤ name % nameBase → answered false x ≡ arriveOne places entries place name targets
+  unfolding answered arriveOne
+  arrive-count x s h = sym (cond-true _ _ (ltb-of (name / nameBase) places s) ∙ cond-false _ _ (ltb-over (name % nameBase) entries h))
+
+  within : name / nameBase < places → name % nameBase < entries → arriveOne places entries place name targets ≡ arriveAt (name / nameBase * entries + name % nameBase) place targets
+  unfolding arriveOne
+  within s c = cond-true _ _ (ltb-of (name / nameBase) places s) ∙ cond-true _ _ (ltb-of (name % nameBase) entries c)
+
+  pub arrive-elsewhere : (x : List ℕ) → name / nameBase < places → name % nameBase < entries → ¬ (getD targets (name / nameBase * entries + name % nameBase) 0 ≡ place + 1) → answered false x ≡ arriveOne places entries place name targets
+  unfolding answered arriveAt
+  arrive-elsewhere x s c n = sym (within s c ∙ cond-false _ _ (eqb-apart (getD targets (name / nameBase * entries + name % nameBase) 0) (place + 1) n))
+
+  pub arrive-here : name / nameBase < places → name % nameBase < entries → getD targets (name / nameBase * entries + name % nameBase) 0 ≡ place + 1
+      → answered true (set targets (name / nameBase * entries + name % nameBase) 0) ≡ arriveOne places entries place name targets
+  unfolding answered arriveAt
+  arrive-here s c e = sym (within s c ∙ cond-true _ _ (eqb-of (getD targets (name / nameBase * entries + name % nameBase) 0) (place + 1) e))
