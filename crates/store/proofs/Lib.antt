@@ -28,3 +28,4 @@ pub mod SoundTestWalk
 pub mod SoundTestShape
 pub mod SoundTestBirths
 pub mod MessageTest
+pub mod SoundTestRun

@@ -9,8 +9,8 @@ use lib.Dec.{eqb, ltb}
 use lib.ListN.{length, getD, set}
 use Rattle.lists.proofs.Tests.{eqb-of, eqb-apart, ltb-of, ltb-over, cond-true, cond-false}
 use Rattle.lists.proofs.Blocks.{block-in}
-use Rattle.store.specs.Layout.{nameBase, kindRec}
-use Rattle.store.specs.SoundTests.{answered, arriveAt, arriveOne}
+use Rattle.store.specs.Layout.{slotHead, nameBase, kindRec}
+use Rattle.store.specs.SoundTests.{answered, arriveAt, arriveOne, arriveSlot}
 
 -- where a sender's send of a count is noted
 pub name-in : (places entries sender count n : ℕ) → places * entries ≤ n → sender < places → count < entries → sender * entries + count < n
@@ -40,3 +40,12 @@ module _ (places entries place name : ℕ) (targets : List ℕ) where
       → answered true (set targets (name / nameBase * entries + name % nameBase) 0) ≡ arriveOne places entries place name targets
   unfolding answered arriveAt
   arrive-here s c e = sym (within s c ∙ cond-true _ _ (eqb-of (getD targets (name / nameBase * entries + name % nameBase) 0) (place + 1) e))
+
+module _ (words places entries place : ℕ) (w targets : List ℕ) where
+  pub slot-arrives : (r : Bool) (x : List ℕ) → getD w 0 0 ≡ kindRec → answered r x ≡ arriveOne places entries place (getD w (slotHead + words + getD w 2 0) 0) targets → answered r x ≡ arriveSlot words places entries place w targets
+  unfolding arriveSlot
+  slot-arrives r x k e = e ∙ sym (cond-true _ _ (eqb-of (getD w 0 0) kindRec k))
+
+  pub slot-arrives-not : ¬ (getD w 0 0 ≡ kindRec) → answered true targets ≡ arriveSlot words places entries place w targets
+  unfolding arriveSlot answered
+  slot-arrives-not n = sym (cond-false _ _ (eqb-apart (getD w 0 0) kindRec n))

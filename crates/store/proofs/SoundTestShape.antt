@@ -1,13 +1,15 @@
 -- The tests of shapes: what the code answers for the slot of a process and the slot of an entry.
-use Prim.Native.Nat.{ℕ, _≤_, _<_}
+use Prim.Native.Nat.{ℕ, _+_, _-_, _≤_, _<_}
 use mathlib.Core.Path.{_≡_, refl, sym, _∙_, ap}
 use mathlib.Core.Bool.{Bool, true, false, cond, _&&_}
 use mathlib.Core.List.{List}
 use lib.Dec.{eqb, leb, ltb}
-use lib.ListN.{getD}
-use Rattle.lists.proofs.Tests.{eqb-of, eqb-apart, leb-of, leb-over, cond-false}
-use Rattle.store.specs.Layout.{kindSeq, kindSend, kindRec, kindSpawn, kindSelf, kindCheck, kindLive}
-use Rattle.store.specs.SoundTests.{plainSlot, presentSlot, entrySlot}
+use native.Mathlib.Omega.{arith}
+use lib.ListN.{take, drop, getD}
+use Rattle.lists.proofs.Tests.{eqb-of, eqb-apart, leb-of, leb-over, cond-true, cond-false}
+use Rattle.term.specs.Control.{goodControl}
+use Rattle.store.specs.Layout.{slotHead, kindFree, kindSeq, kindSend, kindRec, kindSpawn, kindSelf, kindCheck, kindLive}
+use Rattle.store.specs.SoundTests.{plainSlot, presentSlot, entrySlot, controlPasses, entryPasses}
 
 module _ (w : List ℕ) where
   pub plain-number : ¬ (getD w 2 0 ≡ 0) → false ≡ plainSlot w
@@ -73,3 +75,24 @@ module _ (w : List ℕ) where
   entry-none a b c d e f =
       let k = getD w 0 0 in
       sym (cond-false _ _ (eqb-apart k kindSeq a) ∙ cond-false _ _ (eqb-apart k kindSend b) ∙ cond-false _ _ (eqb-apart k kindRec c) ∙ cond-false _ _ (eqb-apart k kindSpawn d) ∙ cond-false _ _ (eqb-apart k kindSelf e) ∙ cond-false _ _ (eqb-apart k kindCheck f))
+
+-- ---- controls
+
+pub control-passes : (r : Bool) (places : ℕ) (arities w : List ℕ) → r ≡ goodControl places arities (take (slotHead + getD w 1 0 - slotHead) (drop slotHead w)) → r ≡ controlPasses places arities w
+unfolding controlPasses
+control-passes r places arities w e =
+    let one : slotHead + getD w 1 0 - slotHead ≡ getD w 1 0 = omega arith in
+    e ∙ ap (λ (n : ℕ). goodControl places arities (take n (drop slotHead w))) one
+
+module _ (places : ℕ) (arities w : List ℕ) where
+  pub passes-free : getD w 0 0 ≡ kindFree → true ≡ entryPasses places arities w
+  unfolding entryPasses
+  passes-free e = sym (cond-true _ _ (eqb-of (getD w 0 0) kindFree e))
+
+  pub passes-control : (b r : Bool) → ¬ (getD w 0 0 ≡ kindFree) → b ≡ entrySlot w → b ≡ true → r ≡ controlPasses places arities w → r ≡ entryPasses places arities w
+  unfolding entryPasses
+  passes-control b r n e t q = q ∙ sym (cond-false _ _ (eqb-apart (getD w 0 0) kindFree n) ∙ ap (λ (x : Bool). x && controlPasses places arities w) (sym e ∙ t))
+
+  pub passes-not : (b : Bool) → ¬ (getD w 0 0 ≡ kindFree) → b ≡ entrySlot w → b ≡ false → false ≡ entryPasses places arities w
+  unfolding entryPasses
+  passes-not b n e f = sym (cond-false _ _ (eqb-apart (getD w 0 0) kindFree n) ∙ ap (λ (x : Bool). x && controlPasses places arities w) (sym e ∙ f))

@@ -65,3 +65,13 @@ slots-behind words size count block s = subst (Slots words size count) (sym (beh
 
 pub behind-short : (size : ℕ) (t : List ℕ) → length (take (length t - size) (drop size t)) ≤ length t
 behind-short size t = omega (arith, ap length (behind size t), length-drop size t)
+
+-- what holds of each slot holds of the first, and of the others
+module _ (P : List ℕ → Type 0) (left size : ℕ) (t : List ℕ) (all : All P (chop left size t)) (some : 0 < left) where
+  pub each-first : P (take size t)
+  unfolding All
+  each-first = subst (All P) (chop-first left size t some) all .0
+
+  pub each-next : All P (chop (left - 1) size (take (length t - size) (drop size t)))
+  unfolding All
+  each-next = subst (λ (r : List ℕ). All P (chop (left - 1) size r)) (sym (behind size t)) (subst (All P) (chop-first left size t some) all .1)

@@ -1,13 +1,14 @@
 -- What the functions of the soundness test answer, said of the words of slots. Assumes nothing: these are definitions.
-use Prim.Native.Nat.{ℕ, suc, _+_, _*_, _≤_, _/_, _%_}
+use Prim.Native.Nat.{ℕ, suc, _+_, _*_, _≤_, _<_, _/_, _%_}
 use mathlib.Core.Path.{_≡_}
-use mathlib.Core.Bool.{Bool, true, false, cond, _&&_, not}
+use mathlib.Core.Bool.{Bool, true, false, cond, _&&_, _||_, not}
 use mathlib.Core.Option.{Option, none, some}
 use mathlib.Core.List.{List, [], _∷_, _++_}
 use lib.Dec.{eqb, leb, ltb}
 use lib.ListN.{length, take, drop, getD, set}
 use Rattle.lists.specs.Lists.{All}
 use Rattle.lists.proofs.Blocks.{chop}
+use Rattle.term.specs.Control.{goodControl}
 use Rattle.store.specs.Layout.{slotHead, nameBase, kindFree, kindSeq, kindSend, kindRec, kindSpawn, kindSelf, kindCheck, kindLive}
 
 -- ---- the words of a slot
@@ -27,6 +28,15 @@ namesIn words w = take (getD w 4 0) (drop (slotHead + words) w)
 -- the names of a slot stand in it
 abbrev pub NamesFit : ℕ → List ℕ → Type 0
 NamesFit words w = slotHead + words + getD w 4 0 ≤ length w
+
+-- and so does the name that a rec took
+pub record TakenFits (words : ℕ) (w : List ℕ) : Type 0 where
+  pub names-fit : NamesFit words w
+  pub taken-fits : getD w 0 0 ≡ kindRec → numberWord w < getD w 4 0
+
+-- a slot's control stands in it
+abbrev pub ControlFits : List ℕ → Type 0
+ControlFits w = slotHead + getD w 1 0 ≤ length w
 
 -- so many slots of one size, each with its names
 pub record Slots (words size count : ℕ) (slots : List ℕ) : Type 0 where
@@ -53,6 +63,21 @@ entrySlot w =
     (cond (eqb (kindWord w) kindSelf) (plainSlot w)
     (cond (eqb (kindWord w) kindCheck) (leb (numberWord w) 255 && eqb (getD w 4 0) 0) false)))))
 
+-- a control that passes the control check, and an entry with such a control; free slots hold nothing
+unfoldable pub controlPasses : ℕ → List ℕ → List ℕ → Bool
+controlPasses places arities w = goodControl places arities (controlIn w)
+
+unfoldable pub entryPasses : ℕ → List ℕ → List ℕ → Bool
+entryPasses places arities w = cond (eqb (kindWord w) kindFree) true (entrySlot w && controlPasses places arities w)
+
+-- every element passes a test
+unfoldable pub everyOf : {B : Type 0} → (B → Bool) → List B → Bool
+everyOf f [] = true
+everyOf f (b ∷ bs) = f b && everyOf f bs
+
+unfoldable pub entriesPass : ℕ → ℕ → ℕ → List ℕ → List ℕ → Bool
+entriesPass size count places arities block = everyOf (entryPasses places arities) (chop count size (drop size block))
+
 -- ---- births
 
 -- what a test leaves where it answers yes
@@ -75,10 +100,20 @@ bearOne child live born =
 unfoldable pub bearSlot : List Bool → List ℕ → List Bool → Option (List Bool)
 bearSlot live w born = cond (eqb (kindWord w) kindSpawn) (bearOne (numberWord w) live born) (some born)
 
--- and of all slots
-unfoldable pub bearAll : List Bool → List (List ℕ) → List Bool → Option (List Bool)
-bearAll live [] born = some born
-bearAll live (w ∷ ws) born = andThen (bearSlot live w born) (bearAll live ws)
+-- a step for each of a list's elements, while none refuses
+unfoldable pub runAll : {A B : Type 0} → (B → A → Option A) → List B → A → Option A
+runAll f [] x = some x
+runAll f (b ∷ bs) x = andThen (f b x) (runAll f bs)
+
+-- the children of a place's spawns
+unfoldable pub bearPlace : ℕ → ℕ → List Bool → List ℕ → List Bool → Option (List Bool)
+bearPlace size count live block born = runAll (bearSlot live) (chop count size (drop size block)) born
+
+-- each live place but 0 was born
+unfoldable pub allBorn : List Bool → List Bool → Bool
+allBorn [] born = true
+allBorn (l ∷ ls) [] = not l && allBorn ls []
+allBorn (l ∷ ls) (b ∷ bs) = (not l || b) && allBorn ls bs
 
 -- ---- messages
 
@@ -92,16 +127,15 @@ arriveOne places entries place name targets =
 
 -- the messages of a queue
 unfoldable pub arriveAll : ℕ → ℕ → ℕ → List ℕ → List ℕ → Option (List ℕ)
-arriveAll places entries place [] targets = some targets
-arriveAll places entries place (name ∷ names) targets = andThen (arriveOne places entries place name targets) (arriveAll places entries place names)
+arriveAll places entries place names targets = runAll (arriveOne places entries place) names targets
 
 -- the message that a slot's rec took
 unfoldable pub arriveSlot : ℕ → ℕ → ℕ → ℕ → List ℕ → List ℕ → Option (List ℕ)
 arriveSlot words places entries place w targets = cond (eqb (kindWord w) kindRec) (arriveOne places entries place (getD w (slotHead + words + numberWord w) 0) targets) (some targets)
 
-unfoldable pub arriveSlots : ℕ → ℕ → ℕ → ℕ → List (List ℕ) → List ℕ → Option (List ℕ)
-arriveSlots words places entries place [] targets = some targets
-arriveSlots words places entries place (w ∷ ws) targets = andThen (arriveSlot words places entries place w targets) (arriveSlots words places entries place ws)
+-- the messages that came to a place: its queue, and what its recs took
+unfoldable pub arriveTaken : ℕ → ℕ → ℕ → ℕ → ℕ → ℕ → List ℕ → List ℕ → Option (List ℕ)
+arriveTaken words size count places entries place block targets = runAll (arriveSlot words places entries place) (chop count size (drop size block)) targets
 
 -- ---- flows
 
@@ -120,3 +154,7 @@ unfoldable pub flowsOn : ℕ → ℕ → List ℕ → List (List ℕ) → List �
 flowsOn words taken before [] present = leftBegins taken before present
 flowsOn words taken before (w ∷ ws) present =
     cond (eqb (kindWord w) kindRec) (leftBegins taken before (namesIn words w) && flowsOn words (numberWord w) (namesIn words w) ws present) (flowsOn words taken before ws present)
+
+-- the flows of a place
+unfoldable pub placeFlows : ℕ → ℕ → ℕ → List ℕ → Bool
+placeFlows words size count block = flowsOn words 0 [] (chop count size (drop size block)) (namesIn words block)

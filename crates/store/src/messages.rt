@@ -3,10 +3,11 @@ use crate::layout::REC;
 use crate::layout::SLOT_HEAD;
 ghost use mathlib.Core.Path.{_≡_};
 ghost use Prim.Native.Nat.{_+_, _*_, _<_, _≤_};
-ghost use lib.ListN.{length, getD};
+ghost use lib.ListN.{length, drop, getD};
+ghost use Rattle.lists.specs.Lists.{All};
 ghost use Rattle.lists.proofs.Blocks.{chop};
 ghost use Rattle.store.specs.Layout.{slotHead};
-ghost use Rattle.store.specs.SoundTests.{Slots, answered, arriveOne, arriveAll, arriveSlot, arriveSlots};
+ghost use Rattle.store.specs.SoundTests.{Slots, answered, TakenFits, arriveOne, arriveAll, arriveSlot, arriveTaken};
 
 // A name's word is its sender and its count to this base.
 const NAME_BASE: u32 = 65536;
@@ -29,5 +30,50 @@ fn arrive(name: u32, place: u32, places: usize, entries: usize, targets: &mut [u
         return false;
     }
     targets[at] = 0;
+    true
+}
+
+// The messages of a queue.
+fn arrive_all(names: &[u32], place: u32, places: usize, entries: usize, targets: &mut [u32]) -> bool
+    requires { ⌜ (places * entries ≤ length (now targets)) × (place < 16) × (places ≤ 16) × (entries ≤ 64) ⌝ }
+    ensures { λ r. ⌜ answered r (now (targets .exit)) ≡ arriveAll places entries place (now (names .entry)) (now (targets .entry)) ⌝ }
+{
+    let mut i = 0;
+    while i < names.len() {
+        if arrive(names[i], place, places, entries, targets) {
+            i += 1;
+        } else {
+            return false;
+        }
+    }
+    true
+}
+
+// The message that a slot's rec took.
+fn arrive_slot(slot: &[u32], words: usize, place: u32, places: usize, entries: usize, targets: &mut [u32]) -> bool
+    requires { ⌜ TakenFits words (now slot) × (places * entries ≤ length (now targets)) × (place < 16) × (places ≤ 16) × (entries ≤ 64) ⌝ }
+    ensures { λ r. ⌜ answered r (now (targets .exit)) ≡ arriveSlot words places entries place (now (slot .entry)) (now (targets .entry)) ⌝ }
+{
+    if slot[0] == REC {
+        return arrive(slot[SLOT_HEAD + words + slot[2] as usize], place, places, entries, targets);
+    }
+    true
+}
+
+// The messages that a place's recs took.
+fn arrive_taken(block: &[u32], count: usize, size: usize, words: usize, place: u32, places: usize, entries: usize, targets: &mut [u32]) -> bool
+    requires { ⌜ (size ≤ length (now block)) × Slots words size count (drop size (now block)) × All (TakenFits words) (chop count size (drop size (now block))) × (places * entries ≤ length (now targets)) × (place < 16) × (places ≤ 16) × (entries ≤ 64) ⌝ }
+    ensures { λ r. ⌜ answered r (now (targets .exit)) ≡ arriveTaken words size count places entries place (now (block .entry)) (now (targets .entry)) ⌝ }
+{
+    let mut t = &block[size..];
+    let mut left = count;
+    while 0 < left {
+        if arrive_slot(&t[..size], words, place, places, entries, targets) {
+            t = &t[size..];
+            left -= 1;
+        } else {
+            return false;
+        }
+    }
     true
 }

@@ -2,10 +2,9 @@
 use crate::layout::SPAWN;
 ghost use mathlib.Core.Path.{_≡_};
 ghost use Prim.Native.Nat.{_≤_};
-ghost use lib.ListN.{length};
-ghost use Rattle.lists.proofs.Blocks.{chop};
+ghost use lib.ListN.{length, drop};
 ghost use Rattle.store.specs.Layout.{slotHead};
-ghost use Rattle.store.specs.SoundTests.{Slots, answered, bearOne, bearSlot, bearAll};
+ghost use Rattle.store.specs.SoundTests.{Slots, answered, bearOne, bearSlot, bearPlace};
 
 // One child more: a live place but 0 that was no child yet.
 fn bear(child: usize, live: &[bool], born: &mut [bool]) -> bool
@@ -35,6 +34,24 @@ fn bear_slot(slot: &[u32], live: &[bool], born: &mut [bool]) -> bool
 {
     if slot[0] == SPAWN {
         return bear(slot[2] as usize, live, born);
+    }
+    true
+}
+
+// The children of a place's spawns.
+fn bear_place(block: &[u32], count: usize, size: usize, live: &[bool], born: &mut [bool]) -> bool
+    requires { ⌜ (size ≤ length (now block)) × Slots 0 size count (drop size (now block)) × (length (now live) ≡ length (now born)) ⌝ }
+    ensures { λ r. ⌜ answered r (now (born .exit)) ≡ bearPlace size count (now (live .entry)) (now (block .entry)) (now (born .entry)) ⌝ }
+{
+    let mut t = &block[size..];
+    let mut left = count;
+    while 0 < left {
+        if bear_slot(&t[..size], live, born) {
+            t = &t[size..];
+            left -= 1;
+        } else {
+            return false;
+        }
     }
     true
 }

@@ -1,16 +1,21 @@
 // Slots: what the slot of a process and the slot of an entry may be.
 use crate::layout::CHECK;
+use crate::layout::FREE;
 use crate::layout::LIVE;
 use crate::layout::REC;
 use crate::layout::SELF;
 use crate::layout::SEND;
 use crate::layout::SEQ;
+use crate::layout::SLOT_HEAD;
 use crate::layout::SPAWN;
+use term::control::check_control;
 ghost use mathlib.Core.Path.{_≡_};
 ghost use Prim.Native.Nat.{_≤_};
-ghost use lib.ListN.{length};
+ghost use lib.ListN.{length, drop};
+ghost use Rattle.lists.specs.Lists.{All};
+ghost use Rattle.lists.proofs.Blocks.{chop};
 ghost use Rattle.store.specs.Layout.{slotHead};
-ghost use Rattle.store.specs.SoundTests.{plainSlot, presentSlot, entrySlot};
+ghost use Rattle.store.specs.SoundTests.{ControlFits, Slots, plainSlot, presentSlot, entrySlot, controlPasses, entryPasses, entriesPass};
 
 // The greatest number of a check.
 const GREATEST_CHECK: u32 = 255;
@@ -65,4 +70,45 @@ pub fn entry_shape(slot: &[u32]) -> bool
         return slot[4] == 0;
     }
     false
+}
+
+// A slot's control passes the control check.
+fn control_passes(slot: &[u32], places: u32, arities: &[u32]) -> bool
+    requires { ⌜ (slotHead ≤ length (now slot)) × ControlFits (now slot) ⌝ }
+    ensures { λ r. ⌜ r ≡ controlPasses places (now (arities .entry)) (now (slot .entry)) ⌝ }
+{
+    check_control(&slot[SLOT_HEAD..SLOT_HEAD + slot[1] as usize], places, arities)
+}
+
+// A free slot, or the slot of an entry with a control that passes.
+fn entry_passes(slot: &[u32], places: u32, arities: &[u32]) -> bool
+    requires { ⌜ (slotHead ≤ length (now slot)) × ControlFits (now slot) ⌝ }
+    ensures { λ r. ⌜ r ≡ entryPasses places (now (arities .entry)) (now (slot .entry)) ⌝ }
+{
+    if slot[0] == FREE {
+        return true;
+    }
+    if entry_shape(slot) {
+        control_passes(slot, places, arities)
+    } else {
+        false
+    }
+}
+
+// The entries of a place.
+pub fn entries_pass(block: &[u32], count: usize, size: usize, places: u32, arities: &[u32]) -> bool
+    requires { ⌜ (size ≤ length (now block)) × Slots 0 size count (drop size (now block)) × All ControlFits (chop count size (drop size (now block))) ⌝ }
+    ensures { λ r. ⌜ r ≡ entriesPass size count places (now (arities .entry)) (now (block .entry)) ⌝ }
+{
+    let mut t = &block[size..];
+    let mut left = count;
+    while 0 < left {
+        if entry_passes(&t[..size], places, arities) {
+            t = &t[size..];
+            left -= 1;
+        } else {
+            return false;
+        }
+    }
+    true
 }
