@@ -1,16 +1,16 @@
 -- The test of messages that came: what the code answers for a name, a queue and the slots of a place.
-use Prim.Native.Nat.{ℕ, _+_, _*_, _/_, _%_, _≤_, _<_}
+use Prim.Native.Nat.{ℕ, _+_, _-_, _*_, _/_, _%_, _≤_, _<_}
 use mathlib.Core.Path.{_≡_, refl, sym, _∙_, ap}
 use mathlib.Core.Bool.{Bool, true, false, cond}
 use mathlib.Core.Option.{Option, none, some}
 use mathlib.Core.List.{List}
 use native.Mathlib.Omega.{arith}
 use lib.Dec.{eqb, ltb}
-use lib.ListN.{length, getD, set}
+use lib.ListN.{length, take, drop, getD, set}
 use Rattle.lists.proofs.Tests.{eqb-of, eqb-apart, ltb-of, ltb-over, cond-true, cond-false}
 use Rattle.lists.proofs.Blocks.{block-in}
 use Rattle.store.specs.Layout.{slotHead, nameBase, kindRec}
-use Rattle.store.specs.SoundTests.{answered, arriveAt, arriveOne, arriveSlot}
+use Rattle.store.specs.SoundTests.{namesIn, answered, andThen, arriveAt, arriveOne, arriveAll, arriveSlot, arriveTaken, arrivePlace}
 
 -- where a sender's send of a count is noted
 pub name-in : (places entries sender count n : ℕ) → places * entries ≤ n → sender < places → count < entries → sender * entries + count < n
@@ -49,3 +49,19 @@ module _ (words places entries place : ℕ) (w targets : List ℕ) where
   pub slot-arrives-not : ¬ (getD w 0 0 ≡ kindRec) → answered true targets ≡ arriveSlot words places entries place w targets
   unfolding arriveSlot answered
   slot-arrives-not n = sym (cond-false _ _ (eqb-apart (getD w 0 0) kindRec n))
+
+module _ (words size count places entries place : ℕ) (block targets : List ℕ) where
+  queue-same : take (slotHead + words + getD block 4 0 - (slotHead + words)) (drop (slotHead + words) block) ≡ namesIn words block
+  queue-same = let one : slotHead + words + getD block 4 0 - (slotHead + words) ≡ getD block 4 0 = omega arith in ap (λ (n : ℕ). take n (drop (slotHead + words) block)) one
+
+  pub place-arrives : (a r : Bool) (x y : List ℕ) → answered a x ≡ arriveAll places entries place (take (slotHead + words + getD block 4 0 - (slotHead + words)) (drop (slotHead + words) block)) targets → a ≡ true
+      → answered r y ≡ arriveTaken words size count places entries place block x → answered r y ≡ arrivePlace words size count places entries place block targets
+  unfolding arrivePlace answered andThen
+  place-arrives a r x y e t q =
+      q ∙ ap (λ (o : Option (List ℕ)). andThen o (arriveTaken words size count places entries place block)) (ap (λ (b : Bool). answered b x) (sym t) ∙ e ∙ ap (λ (l : List ℕ). arriveAll places entries place l targets) queue-same)
+
+  pub place-arrives-not : (a : Bool) (x z : List ℕ) → answered a x ≡ arriveAll places entries place (take (slotHead + words + getD block 4 0 - (slotHead + words)) (drop (slotHead + words) block)) targets → a ≡ false
+      → answered false z ≡ arrivePlace words size count places entries place block targets
+  unfolding arrivePlace answered andThen
+  place-arrives-not a x z e f =
+      ap (λ (o : Option (List ℕ)). andThen o (arriveTaken words size count places entries place block)) (ap (λ (b : Bool). answered b x) (sym f) ∙ e ∙ ap (λ (l : List ℕ). arriveAll places entries place l targets) queue-same)

@@ -1,14 +1,18 @@
 -- The marks of births: what the code answers for a child and for a slot.
-use Prim.Native.Nat.{ℕ, _≤_, _<_}
+use Prim.Native.Nat.{ℕ, _+_, _≤_, _<_}
 use mathlib.Core.Path.{_≡_, refl, sym, _∙_, ap}
-use mathlib.Core.Bool.{Bool, true, false, cond}
+use mathlib.Core.Bool.{Bool, true, false, cond, not}
 use mathlib.Core.Option.{Option, none, some}
 use mathlib.Core.List.{List}
+use native.Mathlib.Decide.{ℕ-discrete}
+use native.Mathlib.Omega.{arith}
 use lib.Dec.{eqb, ltb}
 use lib.ListN.{length, getD, set}
-use Rattle.lists.proofs.Tests.{eqb-of, eqb-apart, ltb-of, ltb-over, cond-true, cond-false}
+use Rattle.lists.proofs.Tests.{eqb-of, eqb-apart, ltb-of, ltb-over, cond-true, cond-false, true-not-false}
+use Rattle.lists.specs.Decides.{Decides}
+use Rattle.lists.proofs.Decides.{no-to}
 use Rattle.store.specs.Layout.{kindSpawn}
-use Rattle.store.specs.SoundTests.{answered, bearOne, bearSlot}
+use Rattle.store.specs.SoundTests.{AllBorn, answered, bearOne, bearSlot}
 
 module _ (child : ℕ) (live born : List Bool) where
   pub bear-zero : (x : List Bool) → child ≡ 0 → answered false x ≡ bearOne child live born
@@ -43,3 +47,25 @@ module _ (live : List Bool) (w : List ℕ) (born : List Bool) where
   pub slot-bears-not : ¬ (getD w 0 0 ≡ kindSpawn) → answered true born ≡ bearSlot live w born
   unfolding bearSlot answered
   slot-bears-not n = sym (cond-false _ _ (eqb-apart (getD w 0 0) kindSpawn n))
+
+-- ---- each live place but 0 was born
+
+module _ (live born : List Bool) (q : ℕ) (low : 1 ≤ q) where
+  pub born-breaks : q < length live → getD live q false ≡ true → getD born q false ≡ false → Decides (AllBorn live born) false
+  born-breaks h l b = no-to (λ x. true-not-false (x .each q (omega arith) h l) b)
+
+  pub born-next : ((k : ℕ) → 0 < k → k < q → getD live k false ≡ true → getD born k false ≡ true) → (getD live q false ≡ true → getD born q false ≡ true)
+      → (k : ℕ) → 0 < k → k < q + 1 → getD live k false ≡ true → getD born k false ≡ true
+  born-next before here k a b l = go (ℕ-discrete k q)
+    where
+      go : Dec (k ≡ q) → getD born k false ≡ true
+      go (yes e) = ap (λ (n : ℕ). getD born n false) e ∙ here (ap (λ (n : ℕ). getD live n false) (sym e) ∙ l)
+      go (no n) = before k a (omega arith) l
+
+pub not-true : (b : Bool) → not b ≡ true → b ≡ false
+not-true true e = sym e
+not-true false e = refl
+
+pub not-false : (b : Bool) → not b ≡ false → b ≡ true
+not-false true e = refl
+not-false false e = sym e

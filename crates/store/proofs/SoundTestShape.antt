@@ -9,7 +9,7 @@ use lib.ListN.{take, drop, getD}
 use Rattle.lists.proofs.Tests.{eqb-of, eqb-apart, leb-of, leb-over, cond-true, cond-false}
 use Rattle.term.specs.Control.{goodControl}
 use Rattle.store.specs.Layout.{slotHead, kindFree, kindSeq, kindSend, kindRec, kindSpawn, kindSelf, kindCheck, kindLive}
-use Rattle.store.specs.SoundTests.{plainSlot, presentSlot, entrySlot, controlPasses, entryPasses}
+use Rattle.store.specs.SoundTests.{plainSlot, presentSlot, entrySlot, controlPasses, entryPasses, entriesPass, placePasses}
 
 module _ (w : List ℕ) where
   pub plain-number : ¬ (getD w 2 0 ≡ 0) → false ≡ plainSlot w
@@ -96,3 +96,24 @@ module _ (places : ℕ) (arities w : List ℕ) where
   pub passes-not : (b : Bool) → ¬ (getD w 0 0 ≡ kindFree) → b ≡ entrySlot w → b ≡ false → false ≡ entryPasses places arities w
   unfolding entryPasses
   passes-not b n e f = sym (cond-false _ _ (eqb-apart (getD w 0 0) kindFree n) ∙ ap (λ (x : Bool). x && controlPasses places arities w) (sym e ∙ f))
+
+-- ---- a place
+
+module _ (size count places : ℕ) (arities block : List ℕ) where
+  pub place-free : getD block 0 0 ≡ kindFree → true ≡ placePasses size count places arities block
+  unfolding placePasses
+  place-free e = sym (cond-true _ _ (eqb-of (getD block 0 0) kindFree e))
+
+  used : ¬ (getD block 0 0 ≡ kindFree) → placePasses size count places arities block ≡ (presentSlot (take size block) && (controlPasses places arities (take size block) && entriesPass size count places arities block))
+  unfolding placePasses
+  used n = cond-false _ _ (eqb-apart (getD block 0 0) kindFree n)
+
+  pub place-shapeless : (a : Bool) → ¬ (getD block 0 0 ≡ kindFree) → a ≡ presentSlot (take size block) → a ≡ false → false ≡ placePasses size count places arities block
+  place-shapeless a n e f = sym (used n ∙ ap (λ (x : Bool). x && (controlPasses places arities (take size block) && entriesPass size count places arities block)) (sym e ∙ f))
+
+  pub place-control : (a b : Bool) → ¬ (getD block 0 0 ≡ kindFree) → a ≡ presentSlot (take size block) → a ≡ true → b ≡ controlPasses places arities (take size block) → b ≡ false → false ≡ placePasses size count places arities block
+  place-control a b n e t q f = sym (used n ∙ (λ i. (sym e ∙ t) i && ((sym q ∙ f) i && entriesPass size count places arities block)))
+
+  pub place-entries : (a b r : Bool) → ¬ (getD block 0 0 ≡ kindFree) → a ≡ presentSlot (take size block) → a ≡ true → b ≡ controlPasses places arities (take size block) → b ≡ true
+      → r ≡ entriesPass size count places arities block → r ≡ placePasses size count places arities block
+  place-entries a b r n e t q u x = x ∙ sym (used n ∙ (λ i. (sym e ∙ t) i && ((sym q ∙ u) i && entriesPass size count places arities block)))

@@ -75,3 +75,7 @@ module _ (P : List ℕ → Type 0) (left size : ℕ) (t : List ℕ) (all : All P
   pub each-next : All P (chop (left - 1) size (take (length t - size) (drop size t)))
   unfolding All
   each-next = subst (λ (r : List ℕ). All P (chop (left - 1) size r)) (sym (behind size t)) (subst (All P) (chop-first left size t some) all .1)
+
+-- the length of what is left behind the first
+pub others-lent : (left size : ℕ) (t : List ℕ) → length t ≡ left * size → 0 < left → length (take (length t - size) (drop size t)) ≡ (left - 1) * size
+others-lent left size t e h = ap length (behind size t) ∙ length-drop size t ∙ others-long left size (length t) e h

@@ -43,6 +43,24 @@ pub record Slots (words size count : ℕ) (slots : List ℕ) : Type 0 where
   pub long : length slots ≡ count * size
   pub names-fit : All (NamesFit words) (chop count size slots)
 
+-- a block: a slot, and so many behind it
+pub record Block (words size count : ℕ) (b : List ℕ) : Type 0 where
+  pub present-fits : NamesFit words b
+  pub first-fits : size ≤ length b
+  pub slots : Slots words size count (drop size b)
+
+-- with controls
+pub record ControlBlock (size count : ℕ) (b : List ℕ) : Type 0 where
+  pub block : Block 0 size count b
+  pub head-fits : slotHead ≤ size
+  pub present-control : ControlFits (take size b)
+  pub controls : All ControlFits (chop count size (drop size b))
+
+-- with the names that recs took
+pub record TakenBlock (words size count : ℕ) (b : List ℕ) : Type 0 where
+  pub block : Block words size count b
+  pub taken : All (TakenFits words) (chop count size (drop size b))
+
 -- ---- shapes
 
 -- no number and no names
@@ -78,6 +96,11 @@ everyOf f (b ∷ bs) = f b && everyOf f bs
 unfoldable pub entriesPass : ℕ → ℕ → ℕ → List ℕ → List ℕ → Bool
 entriesPass size count places arities block = everyOf (entryPasses places arities) (chop count size (drop size block))
 
+-- the slots of a place: none in use, or those of a process and its entries
+unfoldable pub placePasses : ℕ → ℕ → ℕ → List ℕ → List ℕ → Bool
+placePasses size count places arities block =
+    cond (eqb (kindWord block) kindFree) true (presentSlot (take size block) && (controlPasses places arities (take size block) && entriesPass size count places arities block))
+
 -- ---- births
 
 -- what a test leaves where it answers yes
@@ -110,10 +133,8 @@ unfoldable pub bearPlace : ℕ → ℕ → List Bool → List ℕ → List Bool 
 bearPlace size count live block born = runAll (bearSlot live) (chop count size (drop size block)) born
 
 -- each live place but 0 was born
-unfoldable pub allBorn : List Bool → List Bool → Bool
-allBorn [] born = true
-allBorn (l ∷ ls) [] = not l && allBorn ls []
-allBorn (l ∷ ls) (b ∷ bs) = (not l || b) && allBorn ls bs
+pub record AllBorn (live born : List Bool) : Type 0 where
+  pub each : (q : ℕ) → 0 < q → q < length live → getD live q false ≡ true → getD born q false ≡ true
 
 -- ---- messages
 
@@ -136,6 +157,9 @@ arriveSlot words places entries place w targets = cond (eqb (kindWord w) kindRec
 -- the messages that came to a place: its queue, and what its recs took
 unfoldable pub arriveTaken : ℕ → ℕ → ℕ → ℕ → ℕ → ℕ → List ℕ → List ℕ → Option (List ℕ)
 arriveTaken words size count places entries place block targets = runAll (arriveSlot words places entries place) (chop count size (drop size block)) targets
+
+unfoldable pub arrivePlace : ℕ → ℕ → ℕ → ℕ → ℕ → ℕ → List ℕ → List ℕ → Option (List ℕ)
+arrivePlace words size count places entries place block targets = andThen (arriveAll places entries place (namesIn words block) targets) (arriveTaken words size count places entries place block)
 
 -- ---- flows
 

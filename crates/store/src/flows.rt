@@ -3,10 +3,11 @@ use crate::layout::REC;
 use crate::layout::SLOT_HEAD;
 ghost use mathlib.Core.Path.{_≡_};
 ghost use mathlib.Core.List.{[]};
-ghost use Prim.Native.Nat.{_≤_};
+ghost use Prim.Native.Nat.{_≤_, _*_};
 ghost use lib.ListN.{length, drop};
+ghost use Rattle.lists.specs.Lists.{All};
 ghost use Rattle.lists.proofs.Blocks.{chop};
-ghost use Rattle.store.specs.SoundTests.{NamesFit, Slots, namesIn, begins as beginsWith, leftBegins, flowsOn};
+ghost use Rattle.store.specs.SoundTests.{NamesFit, Slots, Block, namesIn, begins as beginsWith, leftBegins, flowsOn, everyOf, placeFlows};
 
 // Whether a list of words begins with another.
 fn begins(front: &[u32], whole: &[u32]) -> bool
@@ -63,4 +64,29 @@ fn place_flows(block: &[u32], count: usize, size: usize, words: usize) -> bool
         left -= 1;
     }
     left_begins(before, taken, &block[from..from + block[4] as usize])
+}
+
+// The flows of all places.
+pub fn flows(
+    blocks: &[u32],
+    places: usize,
+    len: usize,
+    count: usize,
+    size: usize,
+    words: usize,
+) -> bool
+    requires { ⌜ (length (now blocks) ≡ places * len) × All (Block words size count) (chop places len (now blocks)) ⌝ }
+    ensures { λ r. ⌜ r ≡ everyOf (placeFlows words size count) (chop places len (now (blocks .entry))) ⌝ }
+{
+    let mut t = blocks;
+    let mut left = places;
+    while 0 < left {
+        if place_flows(&t[..len], count, size, words) {
+            t = &t[len..];
+            left -= 1;
+        } else {
+            return false;
+        }
+    }
+    true
 }

@@ -7,7 +7,7 @@ ghost use lib.ListN.{length, drop, getD};
 ghost use Rattle.lists.specs.Lists.{All};
 ghost use Rattle.lists.proofs.Blocks.{chop};
 ghost use Rattle.store.specs.Layout.{slotHead};
-ghost use Rattle.store.specs.SoundTests.{Slots, answered, TakenFits, arriveOne, arriveAll, arriveSlot, arriveTaken};
+ghost use Rattle.store.specs.SoundTests.{Slots, answered, TakenFits, arriveOne, arriveAll, arriveSlot, arriveTaken, TakenBlock, arrivePlace};
 
 // A name's word is its sender and its count to this base.
 const NAME_BASE: u32 = 65536;
@@ -50,18 +50,40 @@ fn arrive_all(names: &[u32], place: u32, places: usize, entries: usize, targets:
 }
 
 // The message that a slot's rec took.
-fn arrive_slot(slot: &[u32], words: usize, place: u32, places: usize, entries: usize, targets: &mut [u32]) -> bool
+fn arrive_slot(
+    slot: &[u32],
+    words: usize,
+    place: u32,
+    places: usize,
+    entries: usize,
+    targets: &mut [u32],
+) -> bool
     requires { ⌜ TakenFits words (now slot) × (places * entries ≤ length (now targets)) × (place < 16) × (places ≤ 16) × (entries ≤ 64) ⌝ }
     ensures { λ r. ⌜ answered r (now (targets .exit)) ≡ arriveSlot words places entries place (now (slot .entry)) (now (targets .entry)) ⌝ }
 {
     if slot[0] == REC {
-        return arrive(slot[SLOT_HEAD + words + slot[2] as usize], place, places, entries, targets);
+        return arrive(
+            slot[SLOT_HEAD + words + slot[2] as usize],
+            place,
+            places,
+            entries,
+            targets,
+        );
     }
     true
 }
 
 // The messages that a place's recs took.
-fn arrive_taken(block: &[u32], count: usize, size: usize, words: usize, place: u32, places: usize, entries: usize, targets: &mut [u32]) -> bool
+fn arrive_taken(
+    block: &[u32],
+    count: usize,
+    size: usize,
+    words: usize,
+    place: u32,
+    places: usize,
+    entries: usize,
+    targets: &mut [u32],
+) -> bool
     requires { ⌜ (size ≤ length (now block)) × Slots words size count (drop size (now block)) × All (TakenFits words) (chop count size (drop size (now block))) × (places * entries ≤ length (now targets)) × (place < 16) × (places ≤ 16) × (entries ≤ 64) ⌝ }
     ensures { λ r. ⌜ answered r (now (targets .exit)) ≡ arriveTaken words size count places entries place (now (block .entry)) (now (targets .entry)) ⌝ }
 {
@@ -76,4 +98,32 @@ fn arrive_taken(block: &[u32], count: usize, size: usize, words: usize, place: u
         }
     }
     true
+}
+
+// The messages that came to a place: its queue, and what its recs took.
+fn arrive_place(
+    block: &[u32],
+    count: usize,
+    size: usize,
+    words: usize,
+    place: u32,
+    places: usize,
+    entries: usize,
+    targets: &mut [u32],
+) -> bool
+    requires { ⌜ TakenBlock words size count (now block) × (places * entries ≤ length (now targets)) × (place < 16) × (places ≤ 16) × (entries ≤ 64) ⌝ }
+    ensures { λ r. ⌜ answered r (now (targets .exit)) ≡ arrivePlace words size count places entries place (now (block .entry)) (now (targets .entry)) ⌝ }
+{
+    let from = SLOT_HEAD + words;
+    if arrive_all(
+        &block[from..from + block[4] as usize],
+        place,
+        places,
+        entries,
+        targets,
+    ) {
+        arrive_taken(block, count, size, words, place, places, entries, targets)
+    } else {
+        false
+    }
 }

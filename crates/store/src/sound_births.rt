@@ -2,9 +2,10 @@
 use crate::layout::SPAWN;
 ghost use mathlib.Core.Path.{_≡_};
 ghost use Prim.Native.Nat.{_≤_};
+ghost use Rattle.lists.specs.Decides.{Decides};
 ghost use lib.ListN.{length, drop};
 ghost use Rattle.store.specs.Layout.{slotHead};
-ghost use Rattle.store.specs.SoundTests.{Slots, answered, bearOne, bearSlot, bearPlace};
+ghost use Rattle.store.specs.SoundTests.{Slots, AllBorn, answered, bearOne, bearSlot, bearPlace};
 
 // One child more: a live place but 0 that was no child yet.
 fn bear(child: usize, live: &[bool], born: &mut [bool]) -> bool
@@ -52,6 +53,21 @@ fn bear_place(block: &[u32], count: usize, size: usize, live: &[bool], born: &mu
         } else {
             return false;
         }
+    }
+    true
+}
+
+// Each live place but 0 was born.
+fn all_born(live: &[bool], born: &[bool]) -> bool
+    requires { ⌜ length (now live) ≡ length (now born) ⌝ }
+    ensures { λ r. ⌜ Decides (AllBorn (now (live .entry)) (now (born .entry))) r ⌝ }
+{
+    let mut q = 1;
+    while q < live.len() {
+        if live[q] && !born[q] {
+            return false;
+        }
+        q += 1;
     }
     true
 }

@@ -10,12 +10,12 @@ use crate::layout::SLOT_HEAD;
 use crate::layout::SPAWN;
 use term::control::check_control;
 ghost use mathlib.Core.Path.{_≡_};
-ghost use Prim.Native.Nat.{_≤_};
+ghost use Prim.Native.Nat.{_≤_, _*_};
 ghost use lib.ListN.{length, drop};
 ghost use Rattle.lists.specs.Lists.{All};
 ghost use Rattle.lists.proofs.Blocks.{chop};
 ghost use Rattle.store.specs.Layout.{slotHead};
-ghost use Rattle.store.specs.SoundTests.{ControlFits, Slots, plainSlot, presentSlot, entrySlot, controlPasses, entryPasses, entriesPass};
+ghost use Rattle.store.specs.SoundTests.{ControlFits, Slots, plainSlot, presentSlot, entrySlot, controlPasses, entryPasses, entriesPass, ControlBlock, placePasses, everyOf};
 
 // The greatest number of a check.
 const GREATEST_CHECK: u32 = 255;
@@ -77,7 +77,11 @@ fn control_passes(slot: &[u32], places: u32, arities: &[u32]) -> bool
     requires { ⌜ (slotHead ≤ length (now slot)) × ControlFits (now slot) ⌝ }
     ensures { λ r. ⌜ r ≡ controlPasses places (now (arities .entry)) (now (slot .entry)) ⌝ }
 {
-    check_control(&slot[SLOT_HEAD..SLOT_HEAD + slot[1] as usize], places, arities)
+    check_control(
+        &slot[SLOT_HEAD..SLOT_HEAD + slot[1] as usize],
+        places,
+        arities,
+    )
 }
 
 // A free slot, or the slot of an entry with a control that passes.
@@ -105,6 +109,51 @@ pub fn entries_pass(block: &[u32], count: usize, size: usize, places: u32, ariti
     while 0 < left {
         if entry_passes(&t[..size], places, arities) {
             t = &t[size..];
+            left -= 1;
+        } else {
+            return false;
+        }
+    }
+    true
+}
+
+// The slots of a place: none in use, or those of a process and its entries.
+fn place_passes(block: &[u32], count: usize, size: usize, places: u32, arities: &[u32]) -> bool
+    requires { ⌜ ControlBlock size count (now block) ⌝ }
+    ensures { λ r. ⌜ r ≡ placePasses size count places (now (arities .entry)) (now (block .entry)) ⌝ }
+{
+    if block[0] == FREE {
+        return true;
+    }
+    if present_shape(&block[..size]) {
+        if control_passes(&block[..size], places, arities) {
+            entries_pass(block, count, size, places, arities)
+        } else {
+            false
+        }
+    } else {
+        false
+    }
+}
+
+// The slots of all places.
+pub fn places_pass(
+    blocks: &[u32],
+    all: usize,
+    len: usize,
+    count: usize,
+    size: usize,
+    places: u32,
+    arities: &[u32],
+) -> bool
+    requires { ⌜ (length (now blocks) ≡ all * len) × All (ControlBlock size count) (chop all len (now blocks)) ⌝ }
+    ensures { λ r. ⌜ r ≡ everyOf (placePasses size count places (now (arities .entry))) (chop all len (now (blocks .entry))) ⌝ }
+{
+    let mut t = blocks;
+    let mut left = all;
+    while 0 < left {
+        if place_passes(&t[..len], count, size, places, arities) {
+            t = &t[len..];
             left -= 1;
         } else {
             return false;

@@ -66,7 +66,7 @@ part-t-end c = search needs
 
 -- src/flows.rt:52:5
 loop-holds : tie.Need-loop-holds Inv-loop μ-loop
-loop-holds c = 
+loop-holds c =
     let a = c .before .before .before .args in
     (slots-behind (a .words) (a .size) (a .count) (a .block .now) (c .before .before .before .pre .2), behind-short (a .size) (a .block .now), ap (λ (r : List ℕ). flowsOn (a .words) 0 [] (chop (a .count) (a .size) r) (namesIn (a .words) (a .block .now))) (sym (behind (a .size) (a .block .now))))
 
@@ -144,16 +144,19 @@ loop-less c = search needs
 
 -- src/flows.rt:52:5
 loop-again : tie.Need-loop-again Inv-loop μ-loop
-loop-again c = 
+loop-again c =
     let a = c .before .before .before .before .before .before .before .before .args in
     let l = c .before .before .before .before .loop in
     let some = c .before .before .before .loop-test .taken in
     let names = namesIn (a .words) (a .block .now) in
-    let others = chop (l .left - 1) (a .size) (take (length (l .t .now) - a .size) (drop (a .size) (l .t .now))) in
-    (slots-next (a .words) (a .size) (l .left) (l .t .now) (l .inv .0) some, (let b = behind-short (a .size) (l .t .now) in omega (arith, l .inv .1)), ⊎-elim
-    (λ w. (let queue = sym (w .6) in let number = sym (w .7) in going-rec _ (a .words) (a .size) (l .left) (l .taken) (l .before .now) (l .t .now) names (l .inv .0) (l .inv .2) _ some (w .0 .taken) (w .3 .ensures) (w .4 .taken) ∙ λ i. flowsOn (a .words) (number i) (queue i .now) others names))
-    (λ w. (let queue = sym (w .1) in let number = sym (w .2) in going-other _ (a .words) (a .size) (l .left) (l .taken) (l .before .now) (l .t .now) names (l .inv .0) (l .inv .2) some (w .0 .left) ∙ λ i. flowsOn (a .words) (number i) (queue i .now) others names))
-    (c .before .if1 .came))
+    let others = chop (l .left - 1) (a .size) (take (length (l .t .now) - a .size) (drop (a .size) (l .t .now))) in (
+      slots-next (a .words) (a .size) (l .left) (l .t .now) (l .inv .0) some,
+      (let b = behind-short (a .size) (l .t .now) in omega (arith, l .inv .1)),
+      ⊎-elim
+          (λ w. (let queue = sym (w .6) in let number = sym (w .7) in going-rec _ (a .words) (a .size) (l .left) (l .taken) (l .before .now) (l .t .now) names (l .inv .0) (l .inv .2) _ some (w .0 .taken) (w .3 .ensures) (w .4 .taken) ∙ λ i. flowsOn (a .words) (number i) (queue i .now) others names))
+          (λ w. (let queue = sym (w .1) in let number = sym (w .2) in going-other _ (a .words) (a .size) (l .left) (l .taken) (l .before .now) (l .t .now) names (l .inv .0) (l .inv .2) some (w .0 .left) ∙ λ i. flowsOn (a .words) (number i) (queue i .now) others names))
+          (c .before .if1 .came),
+    )
 
 -- src/flows.rt:65:52
 shared-slice-read-left-begins : tie.Need-shared-slice-read-left-begins Inv-loop μ-loop
@@ -189,7 +192,7 @@ left-begins-requires-2 c κs = search needs
 
 -- src/flows.rt:43:1
 returns-2 : tie.Need-returns-2 Inv-loop μ-loop
-returns-2 c = 
+returns-2 c =
     let a = c .before .before .before .before .before .before .before .before .args in
     let l = c .before .before .before .before .loop in
     going-ends _ (a .words) (a .size) (l .left) (l .taken) (l .before .now) (l .t .now) (namesIn (a .words) (a .block .now)) (l .inv .0) (l .inv .2) _ (c .before .before .before .loop-test .left) (c .left-begins2 .ensures ∙ ap (leftBegins (l .taken) (l .before .now)) (present-names (a .words) (a .block .now)))

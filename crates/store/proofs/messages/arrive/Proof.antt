@@ -26,21 +26,21 @@ returns-2 c = search arrive-count
 
 -- src/messages.rt:27:14
 mul-at : tie.Need-mul-at
-mul-at c = 
+mul-at c =
     let s = c .before .before in
     let h : s .args .name / 65536 * s .args .entries + s .args .name % 65536 < length (s .args .targets .now) = search name-in in
     omega arith
 
 -- src/messages.rt:27:14
 add-at : tie.Need-add-at
-add-at c = 
+add-at c =
     let s = c .before .before in
     let h : s .args .name / 65536 * s .args .entries + s .args .name % 65536 < length (s .args .targets .now) = search name-in in
     omega arith
 
 -- src/messages.rt:28:8
 mul-if3 : tie.Need-mul-if3
-mul-if3 c = 
+mul-if3 c =
     let s = c .before .before in
     let h : s .args .name / 65536 * s .args .entries + s .args .name % 65536 < length (s .args .targets .now) = search name-in in
     omega arith
@@ -59,7 +59,7 @@ returns-3 c = search arrive-elsewhere
 
 -- src/messages.rt:31:5
 mul-targets : tie.Need-mul-targets
-mul-targets c = 
+mul-targets c =
     let s = c .before .before .before .before in
     let h : s .args .name / 65536 * s .args .entries + s .args .name % 65536 < length (s .args .targets .now) = search name-in in
     omega arith

@@ -45,7 +45,7 @@ loop-less c = search needs
 
 -- src/messages.rt:40:5
 loop-again : tie.Need-loop-again Inv-loop μ-loop
-loop-again c = 
+loop-again c =
     let a = c .before .before .before .before .before .before .before .before .before .before .args in
     let l = c .before .before .before .before .before .before .before .loop in
     (omega arith, search needs, words-yes (arriveOne (a .places) (a .entries) (a .place)) _ (a .names .now) (l .i) (l .targets) (l .inv .2) _ _ (omega arith) (c .before .before .before .arrive .ensures) (c .if1 .taken))
@@ -56,7 +56,7 @@ same-length c = search needs
 
 -- src/messages.rt:44:13
 returns : tie.Need-returns Inv-loop μ-loop
-returns c = 
+returns c =
     let a = c .before .before .before .before .before .before .before .before .before .before .args in
     let l = c .before .before .before .before .before .before .before .loop in
     words-no (arriveOne (a .places) (a .entries) (a .place)) _ (a .names .now) (l .i) (l .targets) (l .inv .2) _ _ _ (omega arith) (c .before .before .before .arrive .ensures) (c .if1 .left)
@@ -67,7 +67,7 @@ same-length-2 c = search needs
 
 -- src/messages.rt:35:1
 returns-2 : tie.Need-returns-2 Inv-loop μ-loop
-returns-2 c = 
+returns-2 c =
     let a = c .before .before .before .before .args in
     let l = c .before .loop in
     words-done (arriveOne (a .places) (a .entries) (a .place)) _ (a .names .now) (l .i) (l .targets) (l .inv .2) (c .loop-test .left)

@@ -63,7 +63,7 @@ slice-aggregate-arrive-slot c = sym (length-take-le _ _ (let f = facts (c .befor
 
 -- src/messages.rt:71:12
 arrive-slot-requires : tie.Need-arrive-slot-requires Inv-loop μ-loop
-arrive-slot-requires c κs = 
+arrive-slot-requires c κs =
     let s = c .before .before .before .before .before .before .before in
     let l = c .before .before .before .loop in
     (each-first (TakenFits (s .args .words)) (l .left) (s .args .size) (l .t .now) (l .inv .2) (c .before .before .loop-test .taken), (let h = s .pre .3 in omega (arith, l .inv .3)), s .pre .4, s .pre .5, s .pre .6)
@@ -94,7 +94,7 @@ loop-less c = search needs
 
 -- src/messages.rt:70:5
 loop-again : tie.Need-loop-again Inv-loop μ-loop
-loop-again c = 
+loop-again c =
     let a = c .before .before .before .before .before .before .before .before .before .before .before .before .args in
     let l = c .before .before .before .before .before .before .before .before .loop in
     let some = c .before .before .before .before .before .before .before .loop-test .taken in
@@ -106,7 +106,7 @@ same-length c = search needs
 
 -- src/messages.rt:75:13
 returns : tie.Need-returns Inv-loop μ-loop
-returns c = 
+returns c =
     let a = c .before .before .before .before .before .before .before .before .before .before .before .args in
     let l = c .before .before .before .before .before .before .before .loop in
     slots-no (arriveSlot (a .words) (a .places) (a .entries) (a .place)) _ (a .size) (l .left) (l .t .now) (l .targets) (l .inv .4) _ _ _ (c .before .before .before .before .before .before .loop-test .taken) (c .before .before .before .arrive-slot .ensures) (c .if1 .left)
@@ -117,7 +117,7 @@ same-length-2 c = search needs
 
 -- src/messages.rt:64:1
 returns-2 : tie.Need-returns-2 Inv-loop μ-loop
-returns-2 c = 
+returns-2 c =
     let a = c .before .before .before .before .before .args in
     let l = c .before .loop in
     slots-done (arriveSlot (a .words) (a .places) (a .entries) (a .place)) _ (a .size) (l .left) (l .t .now) (l .targets) (l .inv .4) (c .loop-test .left)

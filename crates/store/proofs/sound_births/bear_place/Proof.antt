@@ -61,7 +61,7 @@ slice-aggregate-bear-slot c = sym (length-take-le _ _ (let f = facts (c .before)
 
 -- src/sound_births.rt:49:12
 bear-slot-requires : tie.Need-bear-slot-requires Inv-loop μ-loop
-bear-slot-requires c κs = 
+bear-slot-requires c κs =
     let f = facts (c .before .before) in
     let s = c .before .before .before .before .before .before .before .before in
     (omega (arith, f .0, f .1, length-take-le (s .args .size) (c .before .before .before .loop .t .now) (f .0)), s .pre .2 ∙ sym (c .before .before .before .loop .inv .2))
@@ -92,7 +92,7 @@ loop-less c = search needs
 
 -- src/sound_births.rt:48:5
 loop-again : tie.Need-loop-again Inv-loop μ-loop
-loop-again c = 
+loop-again c =
     let a = c .before .before .before .before .before .before .before .before .before .before .before .before .before .args in
     let l = c .before .before .before .before .before .before .before .before .loop in
     let some = c .before .before .before .before .before .before .before .loop-test .taken in
@@ -104,7 +104,7 @@ same-length c = search needs
 
 -- src/sound_births.rt:53:13
 returns : tie.Need-returns Inv-loop μ-loop
-returns c = 
+returns c =
     let a = c .before .before .before .before .before .before .before .before .before .before .before .before .args in
     let l = c .before .before .before .before .before .before .before .loop in
     slots-no (bearSlot (a .live .now)) _ (a .size) (l .left) (l .t .now) (l .born) (l .inv .3) _ _ _ (c .before .before .before .before .before .before .loop-test .taken) (c .before .before .before .bear-slot .ensures) (c .if1 .left)
@@ -115,7 +115,7 @@ same-length-2 c = search needs
 
 -- src/sound_births.rt:42:1
 returns-2 : tie.Need-returns-2 Inv-loop μ-loop
-returns-2 c = 
+returns-2 c =
     let a = c .before .before .before .before .before .before .args in
     let l = c .before .loop in
     slots-done (bearSlot (a .live .now)) _ (a .size) (l .left) (l .t .now) (l .born) (l .inv .3) (c .loop-test .left)

@@ -63,7 +63,7 @@ slice-aggregate-entry-passes c = sym (length-take-le _ _ (let f = facts (c .befo
 
 -- src/sound_shape.rt:106:12
 entry-passes-requires : tie.Need-entry-passes-requires Inv-loop μ-loop
-entry-passes-requires c κs = 
+entry-passes-requires c κs =
     let f = facts (c .before) in
     let s = c .before .before .before .before .before .before in
     let l = c .before .before .loop in
@@ -95,7 +95,7 @@ loop-less c = search needs
 
 -- src/sound_shape.rt:105:5
 loop-again : tie.Need-loop-again Inv-loop μ-loop
-loop-again c = 
+loop-again c =
     let a = c .before .before .before .before .before .before .before .before .before .args in
     let l = c .before .before .before .before .before .loop in
     let some = c .before .before .before .before .loop-test .taken in
@@ -103,14 +103,14 @@ loop-again c =
 
 -- src/sound_shape.rt:110:13
 returns : tie.Need-returns Inv-loop μ-loop
-returns c = 
+returns c =
     let a = c .before .before .before .before .before .before .before .before .args in
     let l = c .before .before .before .before .loop in
     tests-no (entryPasses (a .places) (a .arities .now)) _ (a .size) (l .left) (l .t .now) (l .inv .3) _ (c .before .before .before .loop-test .taken) (c .before .entry-passes .ensures) (c .if1 .left)
 
 -- src/sound_shape.rt:99:1
 returns-2 : tie.Need-returns-2 Inv-loop μ-loop
-returns-2 c = 
+returns-2 c =
     let a = c .before .before .before .before .before .args in
     let l = c .before .loop in
     tests-done (entryPasses (a .places) (a .arities .now)) _ (a .size) (l .left) (l .t .now) (l .inv .3) (c .loop-test .left)
