@@ -29,3 +29,10 @@ pub mod SoundTestShape
 pub mod SoundTestBirths
 pub mod MessageTest
 pub mod SoundTestRun
+pub mod ZerosLaws
+pub mod WellTestSlot
+pub mod WellTestBlock
+pub mod WellTestStore
+pub mod LoadCodeWords
+pub mod LoadCodeAnswers
+pub mod WellTestRead

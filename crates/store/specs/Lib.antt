@@ -3,3 +3,5 @@ pub mod Image
 pub mod Cases
 pub mod SoundTests
 pub mod Sizing
+pub mod Formed
+pub mod Loading

@@ -1,6 +1,6 @@
 use Rattle.store.proofs.SoundStates.{sizes-in}
 use native.Mathlib.Omega.{arith}
-use Rattle.store.proofs.LayoutLaws.{slot-most, block-most}
+use Rattle.store.proofs.LayoutLaws.{block-most}
 use mathlib.Core.Path.{ap}
 use Prim.Native.Nat.{ℕ, _+_, _*_}
 use borrow.Author.Needs.{needs}

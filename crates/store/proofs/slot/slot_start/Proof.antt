@@ -1,5 +1,5 @@
 use mathlib.Core.Path.{ap}
-use Prim.Native.Nat.{ℕ, _+_, _*_}
+use Prim.Native.Nat.{ℕ, _*_}
 use Rattle.store.proofs.LayoutLaws.{blocks-most, slot-within}
 use native.Mathlib.Omega.{arith}
 use borrow.Author.Needs.{needs}
