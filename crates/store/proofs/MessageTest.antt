@@ -8,9 +8,10 @@ use native.Mathlib.Omega.{arith}
 use lib.Dec.{eqb, ltb}
 use lib.ListN.{length, take, drop, getD, set}
 use Rattle.lists.proofs.Tests.{eqb-of, eqb-apart, ltb-of, ltb-over, cond-true, cond-false}
-use Rattle.lists.proofs.Blocks.{block-in}
+use Rattle.lists.proofs.Blocks.{block-in, chop}
 use Rattle.store.specs.Layout.{slotHead, nameBase, kindRec}
-use Rattle.store.specs.SoundTests.{namesIn, answered, andThen, arriveAt, arriveOne, arriveAll, arriveSlot, arriveTaken, arrivePlace}
+use Rattle.store.specs.SoundTests.{namesIn, answered, andThen, arriveAt, arriveOne, arriveAll, arriveSlot, arriveTaken, arrivePlace, arriveFrom}
+use Rattle.store.proofs.SoundTestWalk.{chop-first, behind}
 
 -- where a sender's send of a count is noted
 pub name-in : (places entries sender count n : ℕ) → places * entries ≤ n → sender < places → count < entries → sender * entries + count < n
@@ -65,3 +66,27 @@ module _ (words size count places entries place : ℕ) (block targets : List ℕ
   unfolding arrivePlace answered andThen
   place-arrives-not a x z e f =
       ap (λ (o : Option (List ℕ)). andThen o (arriveTaken words size count places entries place block)) (ap (λ (b : Bool). answered b x) (sym f) ∙ e ∙ ap (λ (l : List ℕ). arriveAll places entries place l targets) queue-same)
+
+-- ---- over places
+
+module _ (words size count places entries place len left : ℕ) (t x : List ℕ) (whole : Option (List ℕ)) (so-far : whole ≡ arriveFrom words size count places entries place (chop left len t) x) where
+  here : 0 < left → whole ≡ andThen (arrivePlace words size count places entries place (take len t) x) (arriveFrom words size count places entries (place + 1) (chop (left - 1) len (drop len t)))
+  unfolding arriveFrom
+  here some′ = so-far ∙ ap (λ (bs : List (List ℕ)). arriveFrom words size count places entries place bs x) (chop-first left len t some′)
+
+  pub from-yes : (y : List ℕ) (r : Bool) → 0 < left → answered r y ≡ arrivePlace words size count places entries place (take len t) x → r ≡ true
+      → whole ≡ arriveFrom words size count places entries (place + 1) (chop (left - 1) len (take (length t - len) (drop len t))) y
+  unfolding answered andThen
+  from-yes y r some′ e yes′ =
+      here some′
+      ∙ ap (λ (o : Option (List ℕ)). andThen o (arriveFrom words size count places entries (place + 1) (chop (left - 1) len (drop len t)))) (sym e ∙ ap (λ (b : Bool). answered b y) yes′)
+      ∙ ap (λ (l : List ℕ). arriveFrom words size count places entries (place + 1) (chop (left - 1) len l) y) (sym (behind len t))
+
+  pub from-no : (y z : List ℕ) (r : Bool) → 0 < left → answered r y ≡ arrivePlace words size count places entries place (take len t) x → r ≡ false → answered false z ≡ whole
+  unfolding answered andThen
+  from-no y z r some′ e no′ =
+      sym (here some′ ∙ ap (λ (o : Option (List ℕ)). andThen o (arriveFrom words size count places entries (place + 1) (chop (left - 1) len (drop len t)))) (sym e ∙ ap (λ (b : Bool). answered b y) no′))
+
+  pub from-done : left ≤ 0 → answered true x ≡ whole
+  unfolding answered chop arriveFrom
+  from-done h = let none-left : left ≡ 0 = omega arith in sym (so-far ∙ ap (λ (n : ℕ). arriveFrom words size count places entries place (chop n len t) x) none-left)

@@ -1,18 +1,18 @@
 -- The marks of births: what the code answers for a child and for a slot.
 use Prim.Native.Nat.{ℕ, _+_, _≤_, _<_}
-use mathlib.Core.Path.{_≡_, refl, sym, _∙_, ap}
+use mathlib.Core.Path.{_≡_, refl, sym, _∙_, ap, subst}
 use mathlib.Core.Bool.{Bool, true, false, cond, not}
 use mathlib.Core.Option.{Option, none, some}
 use mathlib.Core.List.{List}
 use native.Mathlib.Decide.{ℕ-discrete}
 use native.Mathlib.Omega.{arith}
 use lib.Dec.{eqb, ltb}
-use lib.ListN.{length, getD, set}
-use Rattle.lists.proofs.Tests.{eqb-of, eqb-apart, ltb-of, ltb-over, cond-true, cond-false, true-not-false}
+use lib.ListN.{length, getD, set, replicate}
+use Rattle.lists.proofs.Tests.{eqb-of, eqb-apart, ltb-of, ltb-over, cond-true, cond-false, true-not-false, none-not-some, some-injective}
 use Rattle.lists.specs.Decides.{Decides}
-use Rattle.lists.proofs.Decides.{no-to}
+use Rattle.lists.proofs.Decides.{no-to, by}
 use Rattle.store.specs.Layout.{kindSpawn}
-use Rattle.store.specs.SoundTests.{AllBorn, answered, bearOne, bearSlot}
+use Rattle.store.specs.SoundTests.{AllBorn, Births, answered, runAll, bearOne, bearSlot, bearPlace}
 
 module _ (child : ℕ) (live born : List Bool) where
   pub bear-zero : (x : List Bool) → child ≡ 0 → answered false x ≡ bearOne child live born
@@ -69,3 +69,19 @@ not-true false e = refl
 pub not-false : (b : Bool) → not b ≡ false → b ≡ true
 not-false true e = refl
 not-false false e = sym e
+
+-- ---- the clause about births
+
+module _ (size count : ℕ) (live : List Bool) (blocks : List (List ℕ)) (x : List Bool) where
+  marked : (r : Bool) → answered r x ≡ runAll (bearPlace size count live) blocks (replicate 16 false) → r ≡ true → runAll (bearPlace size count live) blocks (replicate 16 false) ≡ some x
+  unfolding answered
+  marked r e t = sym e ∙ ap (λ (b : Bool). answered b x) t
+
+  pub births-marked : (r a : Bool) → answered r x ≡ runAll (bearPlace size count live) blocks (replicate 16 false) → r ≡ true → Decides (AllBorn live x) a → Decides (Births size count live blocks) a
+  births-marked r a e t d =
+      by (λ all. record { born = x; marks = marked r e t; all = all })
+      (λ y. subst (AllBorn live) (some-injective (sym (y .marks) ∙ marked r e t)) (y .all)) d
+
+  pub births-refused : (r : Bool) → answered r x ≡ runAll (bearPlace size count live) blocks (replicate 16 false) → r ≡ false → Decides (Births size count live blocks) false
+  unfolding answered
+  births-refused r e f = no-to (λ y. none-not-some (ap (λ (b : Bool). answered b x) (sym f) ∙ e ∙ y .marks))

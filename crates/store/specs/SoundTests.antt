@@ -5,7 +5,7 @@ use mathlib.Core.Bool.{Bool, true, false, cond, _&&_, _||_, not}
 use mathlib.Core.Option.{Option, none, some}
 use mathlib.Core.List.{List, [], _∷_, _++_}
 use lib.Dec.{eqb, leb, ltb}
-use lib.ListN.{length, take, drop, getD, set}
+use lib.ListN.{length, take, drop, getD, set, replicate}
 use Rattle.lists.specs.Lists.{All}
 use Rattle.lists.proofs.Blocks.{chop}
 use Rattle.term.specs.Control.{goodControl}
@@ -136,6 +136,12 @@ bearPlace size count live block born = runAll (bearSlot live) (chop count size (
 pub record AllBorn (live born : List Bool) : Type 0 where
   pub each : (q : ℕ) → 0 < q → q < length live → getD live q false ≡ true → getD born q false ≡ true
 
+-- the clause about births: no child is refused, and each live place but 0 was born
+pub record Births (size count : ℕ) (live : List Bool) (blocks : List (List ℕ)) : Type 0 where
+  pub born : List Bool
+  pub marks : runAll (bearPlace size count live) blocks (replicate 16 false) ≡ some born
+  pub all : AllBorn live born
+
 -- ---- messages
 
 -- a message that came to a place: it was sent there, and did not come before
@@ -160,6 +166,11 @@ arriveTaken words size count places entries place block targets = runAll (arrive
 
 unfoldable pub arrivePlace : ℕ → ℕ → ℕ → ℕ → ℕ → ℕ → List ℕ → List ℕ → Option (List ℕ)
 arrivePlace words size count places entries place block targets = andThen (arriveAll places entries place (namesIn words block) targets) (arriveTaken words size count places entries place block)
+
+-- the messages that came to all places, from one on
+unfoldable pub arriveFrom : ℕ → ℕ → ℕ → ℕ → ℕ → ℕ → List (List ℕ) → List ℕ → Option (List ℕ)
+arriveFrom words size count places entries place [] targets = some targets
+arriveFrom words size count places entries place (b ∷ bs) targets = andThen (arrivePlace words size count places entries place b targets) (arriveFrom words size count places entries (place + 1) bs)
 
 -- ---- flows
 

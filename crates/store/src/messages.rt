@@ -7,7 +7,7 @@ ghost use lib.ListN.{length, drop, getD};
 ghost use Rattle.lists.specs.Lists.{All};
 ghost use Rattle.lists.proofs.Blocks.{chop};
 ghost use Rattle.store.specs.Layout.{slotHead};
-ghost use Rattle.store.specs.SoundTests.{Slots, answered, TakenFits, arriveOne, arriveAll, arriveSlot, arriveTaken, TakenBlock, arrivePlace};
+ghost use Rattle.store.specs.SoundTests.{Slots, answered, TakenFits, arriveOne, arriveAll, arriveSlot, arriveTaken, TakenBlock, arrivePlace, arriveFrom};
 
 // A name's word is its sender and its count to this base.
 const NAME_BASE: u32 = 65536;
@@ -126,4 +126,42 @@ fn arrive_place(
     } else {
         false
     }
+}
+
+// The messages that came to all places.
+pub fn messages(
+    blocks: &[u32],
+    places: usize,
+    len: usize,
+    count: usize,
+    size: usize,
+    words: usize,
+    entries: usize,
+    targets: &mut [u32],
+) -> bool
+    requires { ⌜ (length (now blocks) ≡ places * len) × All (TakenBlock words size count) (chop places len (now blocks)) × (places * entries ≤ length (now targets)) × (places ≤ 16) × (entries ≤ 64) ⌝ }
+    ensures { λ r. ⌜ answered r (now (targets .exit)) ≡ arriveFrom words size count places entries 0 (chop places len (now (blocks .entry))) (now (targets .entry)) ⌝ }
+{
+    let mut t = blocks;
+    let mut left = places;
+    let mut place = 0u32;
+    while 0 < left {
+        if arrive_place(
+            &t[..len],
+            count,
+            size,
+            words,
+            place,
+            places,
+            entries,
+            targets,
+        ) {
+            t = &t[len..];
+            left -= 1;
+            place += 1;
+        } else {
+            return false;
+        }
+    }
+    true
 }

@@ -1,11 +1,13 @@
 // Births: each live place but 0 is the child of exactly one spawn entry, place 0 of none, children are live.
 use crate::layout::SPAWN;
 ghost use mathlib.Core.Path.{_≡_};
-ghost use Prim.Native.Nat.{_≤_};
+ghost use Prim.Native.Nat.{_≤_, _*_};
+ghost use Rattle.lists.specs.Lists.{All};
+ghost use Rattle.lists.proofs.Blocks.{chop};
 ghost use Rattle.lists.specs.Decides.{Decides};
 ghost use lib.ListN.{length, drop};
 ghost use Rattle.store.specs.Layout.{slotHead};
-ghost use Rattle.store.specs.SoundTests.{Slots, AllBorn, answered, bearOne, bearSlot, bearPlace};
+ghost use Rattle.store.specs.SoundTests.{Slots, Block, AllBorn, Births, answered, runAll, bearOne, bearSlot, bearPlace};
 
 // One child more: a live place but 0 that was no child yet.
 fn bear(child: usize, live: &[bool], born: &mut [bool]) -> bool
@@ -70,4 +72,50 @@ fn all_born(live: &[bool], born: &[bool]) -> bool
         q += 1;
     }
     true
+}
+
+// The children of all places.
+fn bear_places(
+    blocks: &[u32],
+    places: usize,
+    len: usize,
+    count: usize,
+    size: usize,
+    live: &[bool],
+    born: &mut [bool],
+) -> bool
+    requires { ⌜ (length (now blocks) ≡ places * len) × All (Block 0 size count) (chop places len (now blocks)) × (length (now live) ≡ length (now born)) ⌝ }
+    ensures { λ r. ⌜ answered r (now (born .exit)) ≡ runAll (bearPlace size count (now (live .entry))) (chop places len (now (blocks .entry))) (now (born .entry)) ⌝ }
+{
+    let mut t = blocks;
+    let mut left = places;
+    while 0 < left {
+        if bear_place(&t[..len], count, size, live, born) {
+            t = &t[len..];
+            left -= 1;
+        } else {
+            return false;
+        }
+    }
+    true
+}
+
+// The clause about births, by marks of the children.
+pub fn births(
+    blocks: &[u32],
+    places: usize,
+    len: usize,
+    count: usize,
+    size: usize,
+    live: &[bool],
+) -> bool
+    requires { ⌜ (length (now blocks) ≡ places * len) × All (Block 0 size count) (chop places len (now blocks)) × (length (now live) ≡ 16) ⌝ }
+    ensures { λ r. ⌜ Decides (Births size count (now (live .entry)) (chop places len (now (blocks .entry)))) r ⌝ }
+{
+    let mut born = [false; 16];
+    if bear_places(blocks, places, len, count, size, live, &mut born) {
+        all_born(live, &born)
+    } else {
+        false
+    }
 }
