@@ -22,7 +22,13 @@ pub mod Tested
 pub mod Births
 pub mod SlotSends
 pub mod Loading
+pub mod FlowTest
 pub mod LayoutLaws
+pub mod SoundTestWalk
+pub mod SoundTestShape
+pub mod SoundTestBirths
+pub mod MessageTest
+pub mod SoundTestRun
 pub mod ZerosLaws
 pub mod WellTestSlot
 pub mod WellTestBlock

@@ -1,6 +1,7 @@
 pub mod Layout
 pub mod Image
 pub mod Cases
+pub mod SoundTests
 pub mod Sizing
 pub mod Formed
 pub mod Loading
