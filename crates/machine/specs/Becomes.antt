@@ -1,0 +1,38 @@
+-- What the functions that write the next control promise, in the words of `work`. Assumes nothing: these are definitions.
+use Prim.Native.Nat.{ℕ}
+use mathlib.Core.Path.{_≡_}
+use mathlib.Core.Bool.{true, false}
+use mathlib.Core.Option.{Option, none, some}
+use mathlib.Core.List.{List, [], _∷_}
+use lib.ListN.{length}
+use Rattle.term.specs.Tree.{Term, Terms, node, words}
+use Rattle.term.specs.Read.{termOf, termsOf}
+use Rattle.term.specs.Value.{isValue}
+use Rattle.machine.specs.Value.{atom, pid}
+use Rattle.machine.specs.Work.{Work, toReceive, toSpawn, toSelf, toCheck, work, next}
+use Rattle.machine.specs.Rows.{Plain}
+use Rattle.machine.specs.Steps.{WroteNext}
+use Rattle.machine.specs.Controls.{ControlIs}
+use Rattle.machine.specs.declared.step.Next.{Next}
+use Rattle.machine.specs.declared.step.Next.the-variants.{Nothing}
+
+-- a message's row, which is one value
+pub record ValueIs (row : List ℕ) (u : Term) : Type 0 where
+  pub same-words : words u ≡ row
+  pub read-as : termOf row ≡ u
+  pub plain : Plain u
+  pub value : isValue u ≡ true
+
+-- the row of `work`'s answer was written, where there is one
+unfoldable pub RowIs : Option (List ℕ) → (old new : List ℕ) → Next → Type 0
+RowIs none old new r = (r ≡ Nothing) × (new ≡ old)
+RowIs (some row) old new r = WroteNext row old new r
+
+-- a term of one word in the working place
+unfoldable pub BecomesWord : (c : List ℕ) (w : ℕ) (old new : List ℕ) → Next → Type 0
+BecomesWord c w old new r = (functions : Terms) (t u : Term) → ControlIs functions c t → isValue t ≡ false → words u ≡ w ∷ [] → WroteNext (next t u) old new r
+
+-- what a receive makes of a message's row
+unfoldable pub Receives : (c v old new : List ℕ) → Next → Type 0
+Receives c v old new r =
+    (module′ : List ℕ) (t u : Term) (takes : List ℕ → Option (List ℕ)) → ControlIs (termsOf module′) c t → ValueIs v u → work module′ c ≡ toReceive takes → RowIs (takes v) old new r
