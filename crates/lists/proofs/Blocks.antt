@@ -157,7 +157,7 @@ module _ {A : Type 0} (f : ℕ → List A) where
 
 module _ {A : Type 0} where
   -- what is left of the first b + c elements behind b of them
-  drop-take : (b c n : ℕ) (l : List A) → n ≡ b + c → drop b (take n l) ≡ take c (drop b l)
+  pub drop-take : (b c n : ℕ) (l : List A) → n ≡ b + c → drop b (take n l) ≡ take c (drop b l)
   drop-take zero c n l e = let same : n ≡ c = omega arith in ap (λ (x : ℕ). take x l) same
   drop-take (suc b) c zero l e = absurd (omega arith)
   drop-take (suc b) c (suc n) [] e = sym (take-nil c)

@@ -7,3 +7,4 @@ pub mod All
 pub mod Fill
 pub mod Blocks
 pub mod Counts
+pub mod Decides

@@ -22,3 +22,11 @@ pub mod Tested
 pub mod Births
 pub mod SlotSends
 pub mod Loading
+pub mod LayoutLaws
+pub mod ZerosLaws
+pub mod WellTestSlot
+pub mod WellTestBlock
+pub mod WellTestStore
+pub mod LoadCodeWords
+pub mod LoadCodeAnswers
+pub mod WellTestRead

@@ -16,25 +16,12 @@ use Rattle.lists.proofs.Blocks.{chop, chop-is, chop-again, length-chop, chop-at
 use Rattle.term.specs.Module.{longestModule}
 use Rattle.rules.specs.State.{Sizes}
 use Rattle.store.specs.Layout.{headWords, blocksFrom, slotHead, namesRoom, slotSize, slotCount, blockSize, needed, kindFree, Slot, freeSlot, slotWords, block, head, laid}
+pub use Rattle.store.specs.Formed.{IsZero, WellSlot}
 use Rattle.store.proofs.Lengths.{length-slot, each-slot, slots-in, length-block, blockAt}
 use Rattle.store.proofs.Reading.{FitsSlot, Used, readSlot, read-slot, leading, leading-fill, readBlock, readSizes, readModule, readPlace}
 use Rattle.store.proofs.Slots.{free-zeros, control-room, names-room}
 
-abbrev pub IsZero : ℕ → Type 0
-IsZero w = w ≡ 0
-
 -- ---- slots
-
-pub record WellSlot (sizes : Sizes) (w : List ℕ) : Type 0 where
-  pub long : length w ≡ slotSize sizes
-  pub zero-3 : getD w 3 0 ≡ 0
-  pub zero-5 : getD w 5 0 ≡ 0
-  pub zero-6 : getD w 6 0 ≡ 0
-  pub zero-7 : getD w 7 0 ≡ 0
-  pub control-fits : getD w 1 0 ≤ sizes .words
-  pub control-zeros : All IsZero (drop (getD w 1 0) (midOf slotHead (sizes .words) w))
-  pub names-fit : getD w 4 0 ≤ namesRoom sizes
-  pub names-zeros : All IsZero (drop (getD w 4 0) (midOf (slotHead + sizes .words) (namesRoom sizes) w))
 
 -- a list begins with its first eight elements
 eight : (w : List ℕ) → 8 ≤ length w → w ≡ getD w 0 0 ∷ getD w 1 0 ∷ getD w 2 0 ∷ getD w 3 0 ∷ getD w 4 0 ∷ getD w 5 0 ∷ getD w 6 0 ∷ getD w 7 0 ∷ drop 8 w
