@@ -28,3 +28,5 @@ pub mod RowStep
 pub mod RowSplit
 pub mod RowWork
 pub mod RowBecomes
+pub mod RowApply
+pub mod RowSeq

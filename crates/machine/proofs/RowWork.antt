@@ -13,10 +13,10 @@ use Rattle.term.specs.Words.{tagOf, nOf, kOf, tagPid, tagCall, tagApply, tagCas
 use Rattle.term.specs.Tree.{Term, Terms, int, node, end, _then_, words, wordsOf, count, WholeAll}
 use Rattle.term.specs.Read.{termOf, termsOf}
 use Rattle.term.specs.Value.{isValue}
-use Rattle.term.specs.Module.{functionOf}
+use Rattle.term.specs.Module.{bodyOf, functionOf}
 use Rattle.machine.specs.Operator.{operate, operateOn}
 use Rattle.machine.specs.Match.{unbound, with}
-use Rattle.machine.specs.Bind.{bind}
+use Rattle.machine.specs.Bind.{bind, parameters}
 use Rattle.machine.specs.Clauses.{firstClause}
 use Rattle.machine.specs.Place.{working}
 use Rattle.machine.specs.Work.{Work, finished, stuck, toSeq, toSend, toReceive, toSpawn, toSelf, toCheck, next, seqOr, bodyWith, caseGives, letGives, sendTo, sendWork, workAt, workOf, work}
@@ -24,7 +24,7 @@ use Rattle.machine.specs.Rows.{Stands, Plain, placeOf, placeAmong, Finds
 use Rattle.machine.specs.Operands.{ShortIs, LongIs, Gives}
 use Rattle.machine.specs.Clausal.{AreClauses}
 use Rattle.machine.specs.Steps.{CalledAt, CasedAt}
-use Rattle.machine.specs.Controls.{Pair, Redex, ControlIs, doingOf, doingSeq, CallDoing, CaseDoing, SendDoing, DoingAt, DoingOf}
+use Rattle.machine.specs.Controls.{Pair, Applied, Redex, ControlIs, doingOf, doingSeq, CallDoing, CaseDoing, SendDoing, DoingAt, DoingOf}
 use Rattle.machine.specs.declared.operand.Operand.{Operand}
 use Rattle.machine.specs.declared.operand.Operand.the-variants.{Short, Here, There, Stuck as noOperand}
 use Rattle.machine.specs.declared.clause.Chosen.{Chosen}
@@ -128,19 +128,19 @@ doing-seq-or whole none = refl
 doing-seq-or whole (some t) = refl
 
 module _ (functions : Terms) (whole : Term) (tag n k : ℕ) (ts : Terms) where
-  work-call : tag ≡ tagCall → workAt functions whole (node tag n k ts) ≡ seqOr whole (operateOn k ts)
+  pub work-call : tag ≡ tagCall → workAt functions whole (node tag n k ts) ≡ seqOr whole (operateOn k ts)
   unfolding workAt
   work-call e = rw e
 
-  work-apply : tag ≡ tagApply → workAt functions whole (node tag n k ts) ≡ seqOr whole (bodyWith ts (functionOf functions k))
+  pub work-apply : tag ≡ tagApply → workAt functions whole (node tag n k ts) ≡ seqOr whole (bodyWith ts (functionOf functions k))
   unfolding workAt
   work-apply e = rw e
 
-  work-case : tag ≡ tagCase → workAt functions whole (node tag n k ts) ≡ seqOr whole (caseGives ts)
+  pub work-case : tag ≡ tagCase → workAt functions whole (node tag n k ts) ≡ seqOr whole (caseGives ts)
   unfolding workAt
   work-case e = rw e
 
-  work-let : tag ≡ tagLet → workAt functions whole (node tag n k ts) ≡ seqOr whole (letGives k ts)
+  pub work-let : tag ≡ tagLet → workAt functions whole (node tag n k ts) ≡ seqOr whole (letGives k ts)
   unfolding workAt
   work-let e = rw e
 
@@ -170,7 +170,7 @@ module _ (functions : Terms) (whole : Term) (tag n k : ℕ) (ts : Terms) where
   work-other a b d e f g h i j =
       rw (eqb-apart tag tagCall a, eqb-apart tag tagApply b, eqb-apart tag tagCase d, eqb-apart tag tagLet e, eqb-apart tag tagReceive f, eqb-apart tag tagSpawn g, eqb-apart tag tagSend h, eqb-apart tag tagSelf i, eqb-apart tag tagCheck j)
 
-operate-two : (k : ℕ) (ts : Terms) (p : Pair ts) → operateOn k ts ≡ operate k (p .one) (p .two)
+pub operate-two : (k : ℕ) (ts : Terms) (p : Pair ts) → operateOn k ts ≡ operate k (p .one) (p .two)
 unfolding operateOn
 operate-two k ts p = rw (p .are)
 
@@ -178,7 +178,11 @@ let-two : (k : ℕ) (ts : Terms) → Pair ts → (t : Term) × (letGives k ts �
 unfolding letGives
 let-two k ts p = (bind (with k (p .one) unbound) (p .two), rw (p .are))
 
-case-two : (ts : Terms) (subject : Term) (clauses : Terms) → ts ≡ subject then clauses → caseGives ts ≡ firstClause subject clauses
+pub apply-gives : (functions : Terms) (n k : ℕ) (vs : Terms) (a : Applied functions n k vs) → bodyWith vs (functionOf functions k) ≡ some (bind (parameters 0 vs unbound) (a .body))
+unfolding bodyWith bodyOf
+apply-gives functions n k vs a = rw (a .function-is)
+
+pub case-two : (ts : Terms) (subject : Term) (clauses : Terms) → ts ≡ subject then clauses → caseGives ts ≡ firstClause subject clauses
 unfolding caseGives
 case-two ts subject clauses e = rw e
 
@@ -191,7 +195,7 @@ module _ (c : List ℕ) (at : ℕ) where
   unfolding DoingAt
   at-past r h functions whole w s x = absurd (omega (arith, stands-within c at w s))
 
-  stands-as : (functions : Terms) (w : Term) → Stands c at w → (x : Redex functions w) → Stands c at (node (x .tag) (x .n) (x .k) (x .children))
+  pub stands-as : (functions : Terms) (w : Term) → Stands c at w → (x : Redex functions w) → Stands c at (node (x .tag) (x .n) (x .k) (x .children))
   stands-as functions w s x = subst (Stands c at) (x .is) s
 
   head-is : (functions : Terms) (w : Term) → Stands c at w → (x : Redex functions w) → (tagOf (getD c at 0) ≡ x .tag) × (kOf (getD c at 0) ≡ x .k)
@@ -201,7 +205,7 @@ module _ (c : List ℕ) (at : ℕ) where
       (q .tag-is, q .k-is)
 
   module _ (t : ℕ) (et : t ≡ tagOf (getD c at 0)) where
-    tag-of : (functions : Terms) (w : Term) → Stands c at w → (x : Redex functions w) → t ≡ x .tag
+    pub tag-of : (functions : Terms) (w : Term) → Stands c at w → (x : Redex functions w) → t ≡ x .tag
     tag-of functions w s x = et ∙ head-is functions w s x .0
 
     by : (functions : Terms) (whole w : Term) (x : Redex functions w) (r : Doing) → r ≡ doingOf (workAt functions whole (node (x .tag) (x .n) (x .k) (x .children))) → r ≡ doingOf (workAt functions whole w)
@@ -220,8 +224,8 @@ module _ (c : List ℕ) (at : ℕ) where
     unfolding DoingAt
     at-apply e functions whole w s x =
         let tg : x .tag ≡ tagApply = sym (tag-of functions w s x) ∙ e in
-        let p = x .of-apply tg in
-        by functions whole w x Seq (seq-some _ (p .0) (p .1) ∙ sym (doing-seq-or whole (bodyWith (x .children) (functionOf functions (x .k)))) ∙ ap doingOf (sym (work-apply functions whole (x .tag) (x .n) (x .k) (x .children) tg)))
+        let a = x .of-apply tg in
+        by functions whole w x Seq (seq-some _ (bind (parameters 0 (x .children) unbound) (a .body)) (apply-gives functions (x .n) (x .k) (x .children) a) ∙ sym (doing-seq-or whole (bodyWith (x .children) (functionOf functions (x .k)))) ∙ ap doingOf (sym (work-apply functions whole (x .tag) (x .n) (x .k) (x .children) tg)))
 
     pub at-case : t ≡ tagCase → (r : Doing) → CaseDoing c at r → DoingAt c at r
     unfolding DoingAt CaseDoing

@@ -9,9 +9,9 @@ use Rattle.term.specs.Tree.{Term, Terms, node, words}
 use Rattle.term.specs.Read.{termOf, termsOf}
 use Rattle.term.specs.Value.{isValue}
 use Rattle.machine.specs.Value.{atom, pid}
-use Rattle.machine.specs.Work.{Work, toReceive, toSpawn, toSelf, toCheck, work, next}
+use Rattle.machine.specs.Work.{Work, finished, stuck, toSeq, toSend, toReceive, toSpawn, toSelf, toCheck, work, next}
 use Rattle.machine.specs.Rows.{Plain}
-use Rattle.machine.specs.Steps.{WroteNext}
+use Rattle.machine.specs.Steps.{WroteNext, ModuleIs}
 use Rattle.machine.specs.Controls.{ControlIs}
 use Rattle.machine.specs.declared.step.Next.{Next}
 use Rattle.machine.specs.declared.step.Next.the-variants.{Nothing}
@@ -36,3 +36,17 @@ BecomesWord c w old new r = (functions : Terms) (t u : Term) → ControlIs funct
 unfoldable pub Receives : (c v old new : List ℕ) → Next → Type 0
 Receives c v old new r =
     (module′ : List ℕ) (t u : Term) (takes : List ℕ → Option (List ℕ)) → ControlIs (termsOf module′) c t → ValueIs v u → work module′ c ≡ toReceive takes → RowIs (takes v) old new r
+
+-- the row of a seq step was written; where the control is stuck, nothing was
+unfoldable pub SeqIs : Work → (old new : List ℕ) → Next → Type 0
+SeqIs finished old new r = Unit {0}
+SeqIs stuck old new r = (r ≡ Nothing) × (new ≡ old)
+SeqIs (toSeq row) old new r = WroteNext row old new r
+SeqIs (toSend target value row) old new r = Unit {0}
+SeqIs (toReceive takes) old new r = Unit {0}
+SeqIs (toSpawn child rows) old new r = Unit {0}
+SeqIs (toSelf rows) old new r = Unit {0}
+SeqIs (toCheck number row) old new r = Unit {0}
+
+unfoldable pub SeqNext : (module′ c old new : List ℕ) → Next → Type 0
+SeqNext module′ c old new r = (functions : Terms) (t : Term) → ModuleIs module′ functions → ControlIs (termsOf module′) c t → SeqIs (work module′ c) old new r

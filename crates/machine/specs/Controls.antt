@@ -14,7 +14,7 @@ use Rattle.term.specs.Module.{functionOf}
 use Rattle.machine.specs.Operator.{operate}
 use Rattle.machine.specs.Clauses.{firstClause}
 use Rattle.machine.specs.Place.{working}
-use Rattle.machine.specs.Work.{Work, finished, stuck, toSeq, toSend, toReceive, toSpawn, toSelf, toCheck, bodyWith, sendTo, workAt, work}
+use Rattle.machine.specs.Work.{Work, finished, stuck, toSeq, toSend, toReceive, toSpawn, toSelf, toCheck, sendTo, workAt, work}
 use Rattle.machine.specs.Rows.{Stands, Plain}
 use Rattle.machine.specs.Clausal.{AreClauses}
 use Rattle.machine.specs.declared.work.Doing.{Doing}
@@ -26,6 +26,16 @@ pub record Pair (ts : Terms) : Type 0 where
   pub two : Term
   pub are : ts ≡ one then (two then end)
 
+-- an apply names a function of the module, with as many values as it says
+pub record Applied (functions : Terms) (n k : ℕ) (children : Terms) : Type 0 where
+  pub tag : ℕ
+  pub m : ℕ
+  pub j : ℕ
+  pub body : Term
+  pub function-is : functionOf functions k ≡ some (node tag m j (body then end))
+  pub all : count children ≡ n
+  pub few : n ≤ 64
+
 -- the term at the working place: its children that may be gone into are values, and it has the form that its tag asks for
 pub record Redex (functions : Terms) (w : Term) : Type 0 where
   pub tag : ℕ
@@ -34,7 +44,7 @@ pub record Redex (functions : Terms) (w : Term) : Type 0 where
   pub children : Terms
   pub is : w ≡ node tag n k children
   pub of-call : tag ≡ tagCall → (p : Pair children) × (isValue (p .one) ≡ true) × (isValue (p .two) ≡ true)
-  pub of-apply : tag ≡ tagApply → (body : Term) × (bodyWith children (functionOf functions k) ≡ some body)
+  pub of-apply : tag ≡ tagApply → Applied functions n k children
   pub of-case : tag ≡ tagCase → (subject : Term) × (clauses : Terms) × (children ≡ subject then clauses) × (isValue subject ≡ true) × AreClauses clauses × (count clauses ≡ n)
   pub of-let : tag ≡ tagLet → (p : Pair children) × (isValue (p .one) ≡ true) × (k < 64)
   pub of-receive : tag ≡ tagReceive → AreClauses children × (count children ≡ n)

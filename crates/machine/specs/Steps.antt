@@ -7,14 +7,16 @@ use mathlib.Core.List.{List, [], _∷_, _++_}
 use lib.Dec.{leb}
 use lib.ListN.{length, drop, take}
 use lib.Seq.{sets}
-use Rattle.term.specs.Words.{tagCall, tagCase, tagLet, tagReceive}
-use Rattle.term.specs.Tree.{Term, Terms, int, node, end, _then_, words, count}
+use Rattle.term.specs.Words.{tagApply, tagCall, tagCase, tagLet, tagReceive}
+use Rattle.term.specs.Tree.{Term, Terms, int, node, end, _then_, words, wordsOf, count}
+use Rattle.term.specs.Read.{termsOf}
+use Rattle.term.specs.Module.{functionOf}
 use Rattle.term.specs.Value.{isValue}
 use Rattle.machine.specs.Operator.{operate}
-use Rattle.machine.specs.Match.{unbound, with}
-use Rattle.machine.specs.Bind.{bind}
+use Rattle.machine.specs.Match.{Bindings, unbound, with}
+use Rattle.machine.specs.Bind.{bind, parameters}
 use Rattle.machine.specs.Clauses.{clauseTakes, firstClause}
-use Rattle.machine.specs.Rows.{Stands, Wrote}
+use Rattle.machine.specs.Rows.{Stands, PlainAll, Bound, Wrote}
 use Rattle.machine.specs.Operands.{Gives}
 use Rattle.machine.specs.Clausal.{ClauseIs, AreClauses, ChosenIs}
 use Rattle.machine.specs.Nexts.{rowWith}
@@ -69,3 +71,20 @@ unfoldable pub ReceiveNext : (c : List ℕ) (at : ℕ) (v old new : List ℕ) �
 ReceiveNext c at v old new r =
     (n k : ℕ) (clauses : Terms) (u : Term) → Stands c at (node tagReceive n k clauses) → AreClauses clauses → count clauses ≡ n → Stands v 0 u → isValue u ≡ true
     → NextIs c at (node tagReceive n k clauses) (firstClause u clauses) old new r
+
+-- the places of the values at a position are those of the variables from x on
+unfoldable pub ParametersAt : (c : List ℕ) (at m x : ℕ) (env env′ : List ℕ) → Type 0
+ParametersAt c at m x env env′ =
+    (vs : Terms) (rest : List ℕ) (bindings : Bindings) → PlainAll vs → count vs ≡ m → drop at c ≡ wordsOf vs ++ rest → x + m ≤ length env → Bound c env bindings
+    → Bound c env′ (parameters x vs bindings)
+
+-- the functions of a module, in its row
+pub record ModuleIs (module′ : List ℕ) (functions : Terms) : Type 0 where
+  pub same-words : wordsOf functions ≡ module′
+  pub read-as : termsOf module′ ≡ functions
+  pub plain : PlainAll functions
+
+unfoldable pub ApplyNext : (module′ c : List ℕ) (at : ℕ) (old new : List ℕ) → Next → Type 0
+ApplyNext module′ c at old new r =
+    (functions : Terms) (n k tag m j : ℕ) (vs : Terms) (body : Term) → ModuleIs module′ functions → Stands c at (node tagApply n k vs) → count vs ≡ n → n ≤ 64
+    → functionOf functions k ≡ some (node tag m j (body then end)) → NextIs c at (node tagApply n k vs) (some (bind (parameters 0 vs unbound) body)) old new r

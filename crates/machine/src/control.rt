@@ -2,12 +2,21 @@
 use crate::next::with_word;
 use crate::place::find;
 use crate::step::Next;
+use crate::step::apply_next;
+use crate::step::call_next;
+use crate::step::case_next;
 use crate::step::fitted;
+use crate::step::let_next;
 use crate::step::receive_next;
+use term::words::APPLY;
+use term::words::CALL;
+use term::words::CASE;
+use term::words::LET;
+use term::words::tag;
 ghost use mathlib.Core.Path.{_≡_};
 ghost use Prim.Native.Nat.{ℕ, _<_, _≤_, _+_, _*_, _-_};
 ghost use lib.ListN.{length};
-ghost use Rattle.machine.specs.Becomes.{BecomesWord, Receives};
+ghost use Rattle.machine.specs.Becomes.{BecomesWord, Receives, SeqNext};
 
 // The control with the word `w` in its working place: a check's atom, a self's or a spawn's pid.
 pub fn word_next(c: &[u32], w: u32, out: &mut [u32]) -> Next
@@ -32,4 +41,29 @@ pub fn taken(c: &[u32], v: &[u32], out: &mut [u32]) -> Next
         return Next::Nothing;
     }
     receive_next(c, at, v, out)
+}
+
+// The next control of a call, an apply, a case or a let; nothing where it is stuck.
+pub fn seq_next(program: &[u32], c: &[u32], out: &mut [u32]) -> Next
+    requires { ⌜ (length (now c) < 4294967295) × (length (now program) < 4294967295) ⌝ }
+    ensures { λ r. ⌜ SeqNext (now (program .entry)) (now (c .entry)) (now (out .entry)) (now (out .exit)) r ⌝ }
+{
+    let at = find(c, 0, 1, c.len());
+    if c.len() <= at {
+        return Next::Nothing;
+    }
+    let t = tag(c[at]);
+    if t == CALL {
+        return call_next(c, at, out);
+    }
+    if t == APPLY {
+        return apply_next(program, c, at, out);
+    }
+    if t == CASE {
+        return case_next(c, at, out);
+    }
+    if t == LET {
+        return let_next(c, at, out);
+    }
+    Next::Nothing
 }

@@ -9,13 +9,14 @@ use crate::operand::INTEGER_WORD;
 use crate::operand::Operand;
 use crate::operand::here;
 use crate::operand::operate;
+use term::functions::function_start;
 use term::terms::skip;
 use term::words::k;
 use term::words::n;
 ghost use mathlib.Core.Path.{_≡_};
 ghost use Prim.Native.Nat.{ℕ, _<_, _≤_, _+_, _*_, _-_};
 ghost use lib.ListN.{length};
-ghost use Rattle.machine.specs.Steps.{fittedOf, CalledAt, CallNext, CasedAt, ClauseNext, CaseNext, LetNext, ReceiveNext};
+ghost use Rattle.machine.specs.Steps.{fittedOf, CalledAt, CallNext, CasedAt, ClauseNext, CaseNext, LetNext, ReceiveNext, ParametersAt, ApplyNext};
 
 // No next control; one that is too large; one of so many words.
 pub enum Next {
@@ -138,4 +139,42 @@ pub fn receive_next(c: &[u32], at: usize, v: &[u32], out: &mut [u32]) -> Next
         Chosen::Clause(i) => fitted(clause_next(c, at, i, v, 0, out), room),
         Chosen::Nothing => Next::Nothing,
     }
+}
+
+// The places of the `count` values at `at` as those of the variables from `x` on.
+fn parameters(c: &[u32], at: usize, count: usize, x: usize, env: &mut [u32])
+    requires { ⌜ length (now c) < 4294967295 ⌝ }
+    ensures { λ r. ⌜ ParametersAt (now (c .entry)) at count x (now (env .entry)) (now (env .exit)) ⌝ }
+{
+    if count == 0 {
+        return;
+    }
+    if c.len() <= at {
+        return;
+    }
+    if env.len() <= x {
+        return;
+    }
+    let after = skip(c, at, 1);
+    parameters(c, after, count - 1, x + 1, env);
+    env[x] = at as u32 + 1;
+}
+
+// The apply at `at` becomes the body of its function in `program`.
+pub fn apply_next(program: &[u32], c: &[u32], at: usize, out: &mut [u32]) -> Next
+    requires { ⌜ (at ≤ length (now c)) × (length (now c) < 4294967295) × (length (now program) < 4294967295) ⌝ }
+    ensures { λ r. ⌜ ApplyNext (now (program .entry)) (now (c .entry)) at (now (out .entry)) (now (out .exit)) r ⌝ }
+{
+    if c.len() <= at {
+        return Next::Nothing;
+    }
+    let w = c[at];
+    let mut env = [0; 64];
+    parameters(c, at + 1, n(w) as usize, 0, &mut env);
+    let start = function_start(program, k(w) as usize);
+    if program.len() <= start {
+        return Next::Nothing;
+    }
+    let room = out.len();
+    fitted(with_copy(c, at, program, start + 1, c, &env, out), room)
 }
