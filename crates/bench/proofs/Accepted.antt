@@ -110,11 +110,14 @@ rollback-outcome s rest p t = rolled-stored s rest (rollback p t s)
 
 pub rollback-stored : RollbackStored
 unfolding RequestCall
-rollback-stored = record { allowed = λ s rest p t o sound call.
-    let e : o ≡ outcome (numberOf (rollback p t s)) (countOf (rollback p t s)) (image (endOf s (rollback p t s)) ++ rest) = call .on-image s rest sound refl ∙ rollback-outcome s rest p t in
-    (endOf s (rollback p t s),
-      subst (λ (x : Outcome). Rollback s p t (x .number) (x .value) (endOf s (rollback p t s))) (sym e) (rollback-demands .exact .allowed s p t sound),
-      ap (λ (x : Outcome). x .left) e) }
+rollback-stored = record {
+  allowed = λ s rest p t o sound call.
+      let e : o ≡ outcome (numberOf (rollback p t s)) (countOf (rollback p t s)) (image (endOf s (rollback p t s)) ++ rest) = call .on-image s rest sound refl ∙ rollback-outcome s rest p t in (
+        endOf s (rollback p t s),
+        subst (λ (x : Outcome). Rollback s p t (x .number) (x .value) (endOf s (rollback p t s))) (sym e) (rollback-demands .exact .allowed s p t sound),
+        ap (λ (x : Outcome). x .left) e,
+      );
+}
 
 -- the state after any request is reached, and its answer is below 15
 reach-plan : (s : State) (c : Command) (plan : Plan) → Reachable s → run c s ≡ plan → Reachable (ofPlan s plan .after)
