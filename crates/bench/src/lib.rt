@@ -1,0 +1,1 @@
+// The public calls. Definitions only, so far: see specs/.
