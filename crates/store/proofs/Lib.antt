@@ -36,3 +36,4 @@ pub mod WellTestStore
 pub mod LoadCodeWords
 pub mod LoadCodeAnswers
 pub mod WellTestRead
+pub mod FlowClause
