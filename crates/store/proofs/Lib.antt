@@ -37,3 +37,4 @@ pub mod LoadCodeWords
 pub mod LoadCodeAnswers
 pub mod WellTestRead
 pub mod FlowClause
+pub mod SoundTestClause
