@@ -36,4 +36,9 @@ pub mod WellTestStore
 pub mod LoadCodeWords
 pub mod LoadCodeAnswers
 pub mod WellTestRead
+<<<<<<< HEAD
 pub mod LoadCodeSound
+=======
+pub mod FlowClause
+pub mod SoundTestClause
+>>>>>>> work-sound

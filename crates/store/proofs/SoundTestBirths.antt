@@ -1,5 +1,5 @@
 -- The marks of births: what the code answers for a child and for a slot.
-use Prim.Native.Nat.{ℕ, _+_, _≤_, _<_}
+use Prim.Native.Nat.{ℕ, _+_, _-_, _≤_, _<_}
 use mathlib.Core.Path.{_≡_, refl, sym, _∙_, ap, subst}
 use mathlib.Core.Bool.{Bool, true, false, cond, not}
 use mathlib.Core.Option.{Option, none, some}
@@ -7,12 +7,14 @@ use mathlib.Core.List.{List}
 use native.Mathlib.Decide.{ℕ-discrete}
 use native.Mathlib.Omega.{arith}
 use lib.Dec.{eqb, ltb}
-use lib.ListN.{length, getD, set, replicate}
+use lib.ListN.{length, take, drop, getD, set, replicate}
 use Rattle.lists.proofs.Tests.{eqb-of, eqb-apart, ltb-of, ltb-over, cond-true, cond-false, true-not-false, none-not-some, some-injective}
 use Rattle.lists.specs.Decides.{Decides}
 use Rattle.lists.proofs.Decides.{no-to, by}
-use Rattle.store.specs.Layout.{kindSpawn}
-use Rattle.store.specs.SoundTests.{AllBorn, Births, answered, runAll, bearOne, bearSlot, bearPlace}
+use Rattle.lists.proofs.Blocks.{chop}
+use Rattle.store.specs.Layout.{kindFree, kindSpawn}
+use Rattle.store.specs.SoundTests.{AllBorn, Births, liveFrom, answered, runAll, bearOne, bearSlot, bearPlace}
+use Rattle.store.proofs.SoundTestWalk.{chop-first, behind, below-take}
 
 module _ (child : ℕ) (live born : List Bool) where
   pub bear-zero : (x : List Bool) → child ≡ 0 → answered false x ≡ bearOne child live born
@@ -85,3 +87,17 @@ module _ (size count : ℕ) (live : List Bool) (blocks : List (List ℕ)) (x : L
   pub births-refused : (r : Bool) → answered r x ≡ runAll (bearPlace size count live) blocks (replicate 16 false) → r ≡ false → Decides (Births size count live blocks) false
   unfolding answered
   births-refused r e f = no-to (λ y. none-not-some (ap (λ (b : Bool). answered b x) (sym f) ∙ e ∙ y .marks))
+
+-- ---- which places have a process
+
+module _ (p len left : ℕ) (t : List ℕ) (live whole : List Bool) (so-far : whole ≡ liveFrom p (chop left len t) live) where
+  pub live-next : 1 ≤ len → 0 < left → whole ≡ liveFrom (p + 1) (chop (left - 1) len (take (length t - len) (drop len t))) (set live p (not (eqb (getD t 0 0) kindFree)))
+  unfolding liveFrom
+  live-next h some′ =
+      so-far
+      ∙ ap (λ (bs : List (List ℕ)). liveFrom p bs live) (chop-first left len t some′)
+      ∙ (λ i. liveFrom (p + 1) (chop (left - 1) len (sym (behind len t) i)) (set live p (not (eqb (below-take len 0 t h i) kindFree))))
+
+  pub live-done : left ≤ 0 → live ≡ whole
+  unfolding chop liveFrom
+  live-done h = let none-left : left ≡ 0 = omega arith in sym (so-far ∙ ap (λ (n : ℕ). liveFrom p (chop n len t) live) none-left)

@@ -7,6 +7,9 @@ use mathlib.Core.List.{List, [], _∷_}
 use native.Mathlib.Omega.{arith}
 use lib.ListN.{length, take, drop, getD, drop-of-length-le}
 use lib.Seq.{drop-cons}
+use Rattle.lists.specs.Lists.{All}
+use Rattle.lists.specs.Decides.{Decides}
+use Rattle.lists.proofs.Tests.{and-left, and-right, and-of}
 use Rattle.lists.proofs.Blocks.{chop}
 use Rattle.store.specs.SoundTests.{answered, andThen, runAll, everyOf}
 use Rattle.store.proofs.SoundTestWalk.{chop-first, behind}
@@ -80,3 +83,15 @@ module _ (f : List ℕ → Bool) (whole : Bool) (size left : ℕ) (t : List ℕ)
   pub tests-done : left ≤ 0 → true ≡ whole
   unfolding chop everyOf
   tests-done h = let none-left : left ≡ 0 = omega arith in sym (so-far ∙ ap (λ (n : ℕ). everyOf f (chop n size t)) none-left)
+
+-- a test that decides a property of each element, made of every one
+module _ {B : Type 0} (P : B → Type 0) (f : B → Bool) where
+  pub every-decided : (bs : List B) → All (λ b. Decides (P b) (f b)) bs → Decides (All P bs) (everyOf f bs)
+  unfolding everyOf All
+  every-decided [] a = record { sound = λ e. tt; complete = λ p. refl }
+  every-decided (b ∷ bs) a =
+      let r = every-decided bs (a .1) in
+      record {
+        sound = λ e. (a .0 .sound (and-left (f b) (everyOf f bs) e), r .sound (and-right (f b) (everyOf f bs) e));
+        complete = λ p. and-of (a .0 .complete (p .0)) (r .complete (p .1));
+      }

@@ -103,6 +103,11 @@ placePasses size count places arities block =
 
 -- ---- births
 
+-- which places have a process: those whose first slot is not free
+unfoldable pub liveFrom : ℕ → List (List ℕ) → List Bool → List Bool
+liveFrom p [] live = live
+liveFrom p (b ∷ bs) live = liveFrom (p + 1) bs (set live p (not (eqb (kindWord b) kindFree)))
+
 -- what a test leaves where it answers yes
 unfoldable pub answered : {A : Type 0} → Bool → A → Option A
 answered true x = some x

@@ -1,13 +1,15 @@
 // Births: each live place but 0 is the child of exactly one spawn entry, place 0 of none, children are live.
+use crate::layout::FREE;
 use crate::layout::SPAWN;
 ghost use mathlib.Core.Path.{_≡_};
 ghost use Prim.Native.Nat.{_≤_, _*_};
 ghost use Rattle.lists.specs.Lists.{All};
 ghost use Rattle.lists.proofs.Blocks.{chop};
 ghost use Rattle.lists.specs.Decides.{Decides};
-ghost use lib.ListN.{length, drop};
+ghost use mathlib.Core.Bool.{false};
+ghost use lib.ListN.{length, drop, replicate};
 ghost use Rattle.store.specs.Layout.{slotHead};
-ghost use Rattle.store.specs.SoundTests.{Slots, Block, AllBorn, Births, answered, runAll, bearOne, bearSlot, bearPlace};
+ghost use Rattle.store.specs.SoundTests.{Slots, Block, AllBorn, Births, liveFrom, answered, runAll, bearOne, bearSlot, bearPlace};
 
 // One child more: a live place but 0 that was no child yet.
 fn bear(child: usize, live: &[bool], born: &mut [bool]) -> bool
@@ -118,4 +120,22 @@ pub fn births(
     } else {
         false
     }
+}
+
+// Which places have a process: those whose first slot is not free.
+pub fn live_places(blocks: &[u32], places: usize, len: usize) -> [bool; 16]
+    requires { ⌜ (length (now blocks) ≡ places * len) × (1 ≤ len) × (places ≤ 16) ⌝ }
+    ensures { λ r. ⌜ r ≡ liveFrom 0 (chop places len (now (blocks .entry))) (replicate 16 false) ⌝ }
+{
+    let mut live = [false; 16];
+    let mut t = blocks;
+    let mut left = places;
+    let mut p = 0;
+    while 0 < left {
+        live[p] = t[0] != FREE;
+        t = &t[len..];
+        left -= 1;
+        p += 1;
+    }
+    live
 }
