@@ -36,9 +36,6 @@ pub mod WellTestStore
 pub mod LoadCodeWords
 pub mod LoadCodeAnswers
 pub mod WellTestRead
-<<<<<<< HEAD
 pub mod LoadCodeSound
-=======
 pub mod FlowClause
 pub mod SoundTestClause
->>>>>>> work-sound
