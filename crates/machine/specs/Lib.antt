@@ -6,15 +6,6 @@ pub mod Guard
 pub mod Clauses
 pub mod Place
 pub mod Work
-pub mod Answers
-pub mod Rows
-pub mod Operands
-pub mod Guards
-pub mod Clausal
-pub mod Nexts
-pub mod Steps
-pub mod Controls
-pub mod Becomes
 pub mod Opened
 pub mod Laws
 pub mod Cases

@@ -22,13 +22,7 @@ pub mod Tested
 pub mod Births
 pub mod SlotSends
 pub mod Loading
-pub mod FlowTest
 pub mod LayoutLaws
-pub mod SoundTestWalk
-pub mod SoundTestShape
-pub mod SoundTestBirths
-pub mod MessageTest
-pub mod SoundTestRun
 pub mod ZerosLaws
 pub mod WellTestSlot
 pub mod WellTestBlock
@@ -37,5 +31,3 @@ pub mod LoadCodeWords
 pub mod LoadCodeAnswers
 pub mod WellTestRead
 pub mod LoadCodeSound
-pub mod FlowClause
-pub mod SoundTestClause

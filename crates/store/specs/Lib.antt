@@ -1,7 +1,6 @@
 pub mod Layout
 pub mod Image
 pub mod Cases
-pub mod SoundTests
 pub mod Sizing
 pub mod Formed
 pub mod Loading

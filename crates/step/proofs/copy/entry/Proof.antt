@@ -1,0 +1,21 @@
+use borrow.Author.Needs.{needs}
+use Rattle.step.proofs.copy.entry.Statement.{statement}
+use Rattle.step.proofs.copy.entry.Tie as tie
+use Rattle.step.proofs.copy.entry.Reads as reads
+use Rattle.step.proofs.copy.entry.Lts as lts
+use Rattle.term.proofs.words.k.Reads as k-reads
+use Rattle.term.proofs.words.tag.Reads as tag-reads
+use Rattle.step.proofs.RowWrite.{entry-not, entry-past, entry-is}
+use native.Mathlib.Omega.{arith}
+
+pub entry-spec : {M : Type 1} → statement M
+entry-spec = tie.close (tie.spec
+    (λ c κs. search needs)
+    (λ c. search entry-not)
+    (λ c κs. search needs)
+    (λ c. search needs)
+    (λ c. search entry-past)
+    (λ c. search needs)
+    (λ c. search needs)
+    (λ c. omega (arith, c .shared-slice-known2 .given (c .before .before .k .result)))
+    (λ c. search entry-is))

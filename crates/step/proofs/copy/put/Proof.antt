@@ -1,0 +1,16 @@
+use borrow.Author.Needs.{needs}
+use Rattle.step.proofs.copy.put.Statement.{statement}
+use Rattle.step.proofs.copy.put.Tie as tie
+use Rattle.step.proofs.copy.put.Reads as reads
+use Rattle.step.proofs.copy.put.Lts as lts
+use Rattle.step.proofs.RowWrite.{put-in, put-out}
+
+pub put-spec : {M : Type 1} → statement M
+put-spec = tie.close (tie.spec
+    (λ c. search needs)
+    (λ c. search needs)
+    (λ c. search needs)
+    (λ c. search needs)
+    (λ c. search put-in)
+    (λ c. search needs)
+    (λ c. search put-out))

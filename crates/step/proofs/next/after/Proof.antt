@@ -1,0 +1,18 @@
+use borrow.Author.Needs.{needs}
+use Rattle.step.proofs.next.after.Statement.{statement}
+use Rattle.step.proofs.next.after.Tie as tie
+use Rattle.step.proofs.next.after.Reads as reads
+use Rattle.step.proofs.next.after.Lts as lts
+use Rattle.step.proofs.copy.copy_words.Reads as copy-words-reads
+use Rattle.term.proofs.terms.skip.Reads as skip-reads
+use Rattle.step.proofs.RowNext.{after-written}
+use native.Mathlib.Omega.{arith}
+use Rattle.step.proofs.RowTerms.{skip-within}
+
+pub after-spec : {M : Type 1} → statement M
+after-spec = tie.close (tie.spec
+    (λ c κs. search needs)
+    (λ c. skip-within (c .before .before .before .args .c .now) (c .before .before .before .args .at) 1 _ (c .skip .ensures) (omega arith))
+    (λ c κs. let h = skip-within (c .before .before .before .before .args .c .now) (c .before .before .before .before .args .at) 1 _ (c .before .skip .ensures) (omega arith) in (omega arith, omega arith))
+    (λ c. search needs)
+    (λ c. search after-written))

@@ -1,0 +1,15 @@
+use borrow.Author.Needs.{needs}
+use Rattle.step.proofs.operand.number_of.Statement.{statement}
+use Rattle.step.proofs.operand.number_of.Tie as tie
+use Rattle.step.proofs.operand.number_of.Reads as reads
+use Rattle.step.proofs.operand.number_of.Lts as lts
+use Rattle.step.proofs.integer.word.Reads as word-reads
+use Rattle.step.proofs.RowOperand.{number-value, number-stuck}
+
+pub number-of-spec : {M : Type 1} → statement M
+number-of-spec = tie.close (tie.spec
+    (λ c. search needs)
+    (λ c κs. search needs)
+    (λ c. search needs)
+    (λ c. search number-value)
+    (λ c. search number-stuck))

@@ -1,0 +1,22 @@
+use borrow.Author.Needs.{needs}
+use Rattle.step.proofs.operand.on_integers.Statement.{statement}
+use Rattle.step.proofs.operand.on_integers.Tie as tie
+use Rattle.step.proofs.operand.on_integers.Reads as reads
+use Rattle.step.proofs.operand.on_integers.Lts as lts
+use Rattle.step.proofs.integer.compute.Reads as compute-reads
+use Rattle.step.proofs.integer.value.Reads as value-reads
+use Rattle.step.proofs.operand.number_of.Reads as number-of-reads
+use Rattle.step.proofs.operand.truth_of.Reads as truth-of-reads
+use Rattle.step.proofs.RowOperand.{less-gives, at-most-gives, computed-gives}
+
+pub on-integers-spec : {M : Type 1} → statement M
+on-integers-spec = tie.close (tie.spec
+    (λ c κs. search needs)
+    (λ c κs. search needs)
+    (λ c κs. search needs)
+    (λ c. search less-gives)
+    (λ c κs. search needs)
+    (λ c. search at-most-gives)
+    (λ c κs. search needs)
+    (λ c κs. search needs)
+    (λ c. search computed-gives))

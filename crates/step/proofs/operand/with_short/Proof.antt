@@ -1,0 +1,22 @@
+use borrow.Author.Needs.{needs}
+use Rattle.step.proofs.operand.with_short.Statement.{statement}
+use Rattle.step.proofs.operand.with_short.Tie as tie
+use Rattle.step.proofs.operand.with_short.Reads as reads
+use Rattle.step.proofs.operand.with_short.Lts as lts
+use Rattle.step.proofs.operand.on_integers.Reads as on-integers-reads
+use Rattle.step.proofs.RowOperand.{no-integer-short, second-no-integer, both-integers, second-here, second-there, second-stuck}
+use native.Mathlib.Omega.{arith}
+
+pub with-short-spec : {M : Type 1} → statement M
+with-short-spec = tie.close (tie.spec
+    (λ c. search no-integer-short)
+    (λ c. search needs)
+    (λ c. search second-no-integer)
+    (λ c κs. search needs)
+    (λ c. search needs)
+    (λ c. search needs)
+    (λ c. search needs)
+    (λ c. search both-integers)
+    (λ c. search second-here)
+    (λ c. search second-there)
+    (λ c. search second-stuck))

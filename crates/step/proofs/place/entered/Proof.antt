@@ -1,0 +1,20 @@
+use borrow.Author.Needs.{needs}
+use Rattle.step.proofs.place.entered.Statement.{statement}
+use Rattle.step.proofs.place.entered.Tie as tie
+use Rattle.step.proofs.place.entered.Reads as reads
+use Rattle.step.proofs.place.entered.Lts as lts
+use Rattle.term.proofs.tables.children.Reads as children-reads
+use Rattle.term.proofs.words.n.Reads as n-reads
+use Rattle.term.proofs.words.tag.Reads as tag-reads
+use Rattle.step.proofs.RowPlace.{enters-receive, enters-case, enters-none, enters-let, enters-all}
+
+pub entered-spec : {M : Type 1} → statement M
+entered-spec = tie.close (tie.spec
+    (λ c κs. search needs)
+    (λ c. search enters-receive)
+    (λ c. search enters-case)
+    (λ c κs. search needs)
+    (λ c. search enters-none)
+    (λ c. search enters-let)
+    (λ c κs. search needs)
+    (λ c. search enters-all))

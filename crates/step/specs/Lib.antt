@@ -1,0 +1,9 @@
+pub mod Answers
+pub mod Rows
+pub mod Operands
+pub mod Guards
+pub mod Clausal
+pub mod Nexts
+pub mod Steps
+pub mod Controls
+pub mod Becomes

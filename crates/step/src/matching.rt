@@ -1,0 +1,54 @@
+// Matching patterns against values.
+use term::tables::children;
+use term::terms::skip;
+use term::words::INTEGER;
+use term::words::VARIABLE;
+use term::words::k;
+use term::words::tag;
+ghost use mathlib.Core.Path.{_≡_};
+ghost use Prim.Native.Nat.{ℕ, _<_, _≤_, _+_, _*_, _-_};
+ghost use lib.ListN.{length};
+ghost use Rattle.step.specs.Rows.{Matches};
+
+// Whether the `pending` values at `va` in `v` fit the patterns at `pa` in `p`; for each variable `env` gets the place after its value's.
+pub fn matches(p: &[u32], pa: usize, v: &[u32], va: usize, pending: usize, env: &mut [u32]) -> bool
+    requires { ⌜ (pa ≤ length (now p)) × (pending + 256 * (length (now p) - pa) < 9223372036854775808) × (length (now v) < 4294967295) ⌝ }
+    ensures { λ r. ⌜ Matches (now (p .entry)) pa (now (v .entry)) va pending (now (env .entry)) (now (env .exit)) r ⌝ }
+{
+    if pending == 0 {
+        return true;
+    }
+    if p.len() <= pa {
+        return false;
+    }
+    if v.len() <= va {
+        return false;
+    }
+    let w = p[pa];
+    let t = tag(w);
+    if t == VARIABLE {
+        let x = k(w) as usize;
+        if env.len() <= x {
+            return false;
+        }
+        env[x] = va as u32 + 1;
+        let end = skip(v, va, 1);
+        return matches(p, pa + 1, v, end, pending - 1, env);
+    }
+    if w != v[va] {
+        return false;
+    }
+    if t == INTEGER {
+        if p.len() - pa < 2 {
+            return false;
+        }
+        if v.len() - va < 2 {
+            return false;
+        }
+        if p[pa + 1] != v[va + 1] {
+            return false;
+        }
+        return matches(p, pa + 2, v, va + 2, pending - 1, env);
+    }
+    matches(p, pa + 1, v, va + 1, pending - 1 + children(w), env)
+}

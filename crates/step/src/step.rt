@@ -1,0 +1,180 @@
+// What the term at the working place becomes: one function for each kind of step.
+use crate::clause::Chosen;
+use crate::clause::choose;
+use crate::matching::matches;
+use crate::next::with_copy;
+use crate::next::with_integer;
+use crate::next::with_word;
+use crate::operand::INTEGER_WORD;
+use crate::operand::Operand;
+use crate::operand::here;
+use crate::operand::operate;
+use term::functions::function_start;
+use term::terms::skip;
+use term::words::k;
+use term::words::n;
+ghost use mathlib.Core.Path.{_≡_};
+ghost use Prim.Native.Nat.{ℕ, _<_, _≤_, _+_, _*_, _-_};
+ghost use lib.ListN.{length};
+ghost use Rattle.step.specs.Steps.{fittedOf, CalledAt, CallNext, CasedAt, ClauseNext, CaseNext, LetNext, ReceiveNext, ParametersAt, ApplyNext};
+
+// No next control; one that is too large; one of so many words.
+pub enum Next {
+    Nothing,
+    TooLarge,
+    Row(usize),
+}
+
+pub fn fitted(r: usize, room: usize) -> Next
+    ensures { λ s. ⌜ s ≡ fittedOf r room ⌝ }
+{
+    if r <= room {
+        return Next::Row(r);
+    }
+    Next::TooLarge
+}
+
+// What the call at `at` gives.
+pub fn called(c: &[u32], at: usize) -> Operand
+    requires { ⌜ length (now c) < 4294967295 ⌝ }
+    ensures { λ r. ⌜ CalledAt (now (c .entry)) at r ⌝ }
+{
+    if c.len() <= at {
+        return Operand::Stuck;
+    }
+    let w = c[at];
+    let x = here(c, at + 1);
+    let second = skip(c, at + 1, 1);
+    let y = here(c, second);
+    operate(c, c, k(w), x, y)
+}
+
+pub fn call_next(c: &[u32], at: usize, out: &mut [u32]) -> Next
+    requires { ⌜ (at ≤ length (now c)) × (length (now c) < 4294967295) ⌝ }
+    ensures { λ r. ⌜ CallNext (now (c .entry)) at (now (out .entry)) (now (out .exit)) r ⌝ }
+{
+    let r = called(c, at);
+    let room = out.len();
+    match r {
+        Operand::Short(w, x) => {
+            if w == INTEGER_WORD {
+                return fitted(with_integer(c, at, x, out), room);
+            }
+            fitted(with_word(c, at, w, out), room)
+        }
+        Operand::Here(i) => Next::Nothing,
+        Operand::There(i) => Next::Nothing,
+        Operand::Stuck => Next::Nothing,
+    }
+}
+
+// The clause that the case at `at` takes.
+pub fn cased(c: &[u32], at: usize) -> Chosen
+    requires { ⌜ length (now c) < 4294967295 ⌝ }
+    ensures { λ r. ⌜ CasedAt (now (c .entry)) at r ⌝ }
+{
+    if c.len() <= at {
+        return Chosen::Nothing;
+    }
+    let w = c[at];
+    let clauses = skip(c, at + 1, 1);
+    choose(c, clauses, n(w) as usize, c, at + 1)
+}
+
+// The body of the clause at `clause` in place of the term at `at`, for the value at `va` in `v`.
+fn clause_next(c: &[u32], at: usize, clause: usize, v: &[u32], va: usize, out: &mut [u32]) -> usize
+    requires { ⌜ (at ≤ length (now c)) × (length (now c) < 4294967295) × (length (now v) < 4294967295) ⌝ }
+    ensures { λ r. ⌜ ClauseNext (now (c .entry)) at clause (now (v .entry)) va (now (out .entry)) (now (out .exit)) r ⌝ }
+{
+    if c.len() <= clause {
+        return 0;
+    }
+    let mut env = [0; 64];
+    let fits = matches(c, clause + 1, v, va, 1, &mut env);
+    let body = skip(c, clause + 1, 2);
+    with_copy(c, at, c, body, v, &env, out)
+}
+
+pub fn case_next(c: &[u32], at: usize, out: &mut [u32]) -> Next
+    requires { ⌜ (at ≤ length (now c)) × (length (now c) < 4294967295) ⌝ }
+    ensures { λ r. ⌜ CaseNext (now (c .entry)) at (now (out .entry)) (now (out .exit)) r ⌝ }
+{
+    let r = cased(c, at);
+    let room = out.len();
+    match r {
+        Chosen::Clause(i) => fitted(clause_next(c, at, i, c, at + 1, out), room),
+        Chosen::Nothing => Next::Nothing,
+    }
+}
+
+pub fn let_next(c: &[u32], at: usize, out: &mut [u32]) -> Next
+    requires { ⌜ (at ≤ length (now c)) × (length (now c) < 4294967295) ⌝ }
+    ensures { λ r. ⌜ LetNext (now (c .entry)) at (now (out .entry)) (now (out .exit)) r ⌝ }
+{
+    if c.len() <= at {
+        return Next::Nothing;
+    }
+    let mut env = [0; 64];
+    let x = k(c[at]) as usize;
+    if 64 <= x {
+        return Next::Nothing;
+    }
+    env[x] = at as u32 + 2;
+    let body = skip(c, at + 1, 1);
+    let room = out.len();
+    fitted(with_copy(c, at, c, body, c, &env, out), room)
+}
+
+// What the receive at `at` makes of the value `v`.
+pub fn receive_next(c: &[u32], at: usize, v: &[u32], out: &mut [u32]) -> Next
+    requires { ⌜ (at ≤ length (now c)) × (length (now c) < 4294967295) × (length (now v) < 4294967295) ⌝ }
+    ensures { λ r. ⌜ ReceiveNext (now (c .entry)) at (now (v .entry)) (now (out .entry)) (now (out .exit)) r ⌝ }
+{
+    if c.len() <= at {
+        return Next::Nothing;
+    }
+    let r = choose(c, at + 1, n(c[at]) as usize, v, 0);
+    let room = out.len();
+    match r {
+        Chosen::Clause(i) => fitted(clause_next(c, at, i, v, 0, out), room),
+        Chosen::Nothing => Next::Nothing,
+    }
+}
+
+// The places of the `count` values at `at` as those of the variables from `x` on.
+fn parameters(c: &[u32], at: usize, count: usize, x: usize, env: &mut [u32])
+    requires { ⌜ length (now c) < 4294967295 ⌝ }
+    ensures { λ r. ⌜ ParametersAt (now (c .entry)) at count x (now (env .entry)) (now (env .exit)) ⌝ }
+{
+    if count == 0 {
+        return;
+    }
+    if c.len() <= at {
+        return;
+    }
+    if env.len() <= x {
+        return;
+    }
+    let after = skip(c, at, 1);
+    parameters(c, after, count - 1, x + 1, env);
+    env[x] = at as u32 + 1;
+}
+
+// The apply at `at` becomes the body of its function in `program`.
+pub fn apply_next(program: &[u32], c: &[u32], at: usize, out: &mut [u32]) -> Next
+    requires { ⌜ (at ≤ length (now c)) × (length (now c) < 4294967295) × (length (now program) < 4294967295) ⌝ }
+    ensures { λ r. ⌜ ApplyNext (now (program .entry)) (now (c .entry)) at (now (out .entry)) (now (out .exit)) r ⌝ }
+{
+    if c.len() <= at {
+        return Next::Nothing;
+    }
+    let w = c[at];
+    let mut env = [0; 64];
+    parameters(c, at + 1, n(w) as usize, 0, &mut env);
+    let start = function_start(program, k(w) as usize);
+    if program.len() <= start {
+        return Next::Nothing;
+    }
+    let room = out.len();
+    fitted(with_copy(c, at, program, start + 1, c, &env, out), room)
+}
