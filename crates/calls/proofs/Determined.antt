@@ -12,8 +12,8 @@ use Rattle.store.specs.Layout.{image}
 use Rattle.store.specs.Image.{IsImage}
 use Rattle.store.specs.Loading.{Outcome}
 use Rattle.store.proofs.Laws.{image-laws}
-use Rattle.bench.specs.Calls.{OfStore, stored, RequestCall, AskedCall, LineCall, ListingCall, LoadCall}
-use Rattle.bench.specs.Promises.{Determined, Possible}
+use Rattle.calls.specs.Calls.{OfStore, stored, RequestCall, AskedCall, LineCall, ListingCall, LoadCall}
+use Rattle.calls.specs.Promises.{Determined, Possible}
 
 -- equality of words is decidable, so two outcomes are equal where they cannot differ
 stable : {A : Type 0} → Dec A → ¬ (¬ A) → A

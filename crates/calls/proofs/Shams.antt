@@ -18,9 +18,9 @@ use Rattle.rules.proofs.Demands.{demands}
 use Rattle.store.specs.Layout.{image}
 use Rattle.store.specs.Loading.{Outcome}
 use Rattle.store.proofs.Laws.{image-laws}
-use Rattle.bench.specs.Calls.{outcome, stored, RequestCall}
-use Rattle.bench.specs.Promises.{Bench, Meets, benchModule, loadedBench, loadedStore, firstStep, ShamsCaught}
-use Rattle.bench.proofs.Returns.{accepted-call}
+use Rattle.calls.specs.Calls.{outcome, stored, RequestCall}
+use Rattle.calls.specs.Promises.{Bench, Meets, benchModule, loadedBench, loadedStore, firstStep, ShamsCaught}
+use Rattle.calls.proofs.Returns.{accepted-call}
 
 -- the states after one step and after two
 unfoldable once : State

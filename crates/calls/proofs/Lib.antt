@@ -1,3 +1,4 @@
+pub mod AnswerNumbers
 pub mod Determined
 pub mod Accepted
 pub mod Loads

@@ -12,9 +12,9 @@ use Rattle.rules.specs.Reverse.{reverse}
 use Rattle.rules.proofs.Demands.{demands}
 use Rattle.store.specs.Layout.{image}
 use Rattle.store.specs.Loading.{Outcome}
-use Rattle.bench.specs.Calls.{outcome, RequestCall}
-use Rattle.bench.specs.Promises.{WordsReturn}
-use Rattle.bench.proofs.Accepted.{accepted-stored, done-accepted}
+use Rattle.calls.specs.Calls.{outcome, RequestCall}
+use Rattle.calls.specs.Promises.{WordsReturn}
+use Rattle.calls.proofs.Accepted.{accepted-stored, done-accepted}
 
 -- an accepted command on the image of a state
 pub accepted-call : (s a : State) (rest entry : List ℕ) (c : Command) (o : Outcome) → Sound s → entry ≡ image s ++ rest → runState c s ≡ some a → RequestCall (single c) entry o

@@ -21,8 +21,8 @@ use Rattle.rules.proofs.Demands.{demands}
 use Rattle.rules.proofs.RollbackDemands.{rollback-demands}
 use Rattle.store.specs.Layout.{image}
 use Rattle.store.specs.Loading.{Outcome}
-use Rattle.bench.specs.Calls.{outcome, countIn, stored, RequestCall}
-use Rattle.bench.specs.Promises.{RollbackStored}
+use Rattle.calls.specs.Calls.{outcome, countIn, stored, RequestCall}
+use Rattle.calls.specs.Promises.{RollbackStored}
 
 -- the numbers of refusals lie between `done` and 15
 pub refused-between : {s : State} {c : Command} {n : ℕ} → Refused s c n → (done < n) × (n < notAState)

@@ -20,7 +20,7 @@ use Rattle.rules.specs.Cases.{benchSizes}
 use Rattle.store.specs.Layout.{image}
 use Rattle.store.specs.Image.{IsImage}
 use Rattle.store.specs.Loading.{Outcome}
-use Rattle.bench.specs.Calls.{refusedStore, stored, RequestCall, LineCall, ListingCall, LoadCall}
+use Rattle.calls.specs.Calls.{refusedStore, stored, RequestCall, LineCall, ListingCall, LoadCall}
 
 -- "any two outcomes allowed by it are proved equal"
 pub record Determined : Type 0 where

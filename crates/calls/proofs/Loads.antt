@@ -24,9 +24,9 @@ use Rattle.rules.proofs.Demands.{demands}
 use Rattle.rules.proofs.RollbackDemands.{rollback-demands}
 use Rattle.store.specs.Layout.{needed, image}
 use Rattle.store.specs.Loading.{Outcome, afterLoad, loadInto}
-use Rattle.bench.specs.Calls.{stored, RequestCall, AskedCall, LineCall, written, ListingCall, LoadCall}
-use Rattle.bench.specs.Promises.{Held, by-load, by-request, by-line, ReachedStore, AfterALoad}
-use Rattle.bench.proofs.Accepted.{reach-request, below-request, rollback-outcome, rollback-stored}
+use Rattle.calls.specs.Calls.{stored, RequestCall, AskedCall, LineCall, written, ListingCall, LoadCall}
+use Rattle.calls.specs.Promises.{Held, by-load, by-request, by-line, ReachedStore, AfterALoad}
+use Rattle.calls.proofs.Accepted.{reach-request, below-request, rollback-outcome, rollback-stored}
 
 -- a load that is answered 0 leaves the image of the loaded state
 loaded-store : (module′ : List ℕ) (sizes : Sizes) (entry : List ℕ) (checked : Option ℕ) → goodSizes sizes ≡ true → checkModule module′ ≡ checked

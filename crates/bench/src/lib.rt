@@ -1,1 +1,0 @@
-// The public calls. Definitions only, so far: see specs/.

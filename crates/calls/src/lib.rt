@@ -1,0 +1,2 @@
+// The public calls.
+pub mod answers;
