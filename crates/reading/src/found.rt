@@ -1,0 +1,5 @@
+// Where an entry stands.
+pub enum Found {
+    Nowhere,
+    At(usize),
+}

@@ -1,0 +1,2 @@
+// What stands in a store that is the image of a sound state.
+pub mod found;
