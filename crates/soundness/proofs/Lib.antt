@@ -10,3 +10,5 @@ pub mod Marks
 pub mod BlockViews
 pub mod Occurring
 pub mod BirthClause
+pub mod ArrivalMarks
+pub mod ArrivalClause
