@@ -1,2 +1,3 @@
 // What stands in a store that is the image of a sound state.
 pub mod found;
+pub mod slots;
