@@ -69,5 +69,5 @@ module _ (l : List ℕ) (i : IsImage l) where
         let long : at + size - at ≡ slotSize (s .sizes) = omega (arith, ap slotSize same) in
         ap (λ (n : ℕ). take n (drop at l)) long
         ∙ slot-read s rest l (h .words) p (blocksFrom + p * blockSize (s .sizes)) (blockSize (s .sizes)) (holding _ hp s rest h) refl refl j at
-            (let b = holding _ hj s rest h in omega arith)
-            (a ∙ ap (λ (y : Sizes). blocksFrom + p * blockSize y + j * slotSize y) same)
+        (let b = holding _ hj s rest h in omega arith)
+        (a ∙ ap (λ (y : Sizes). blocksFrom + p * blockSize y + j * slotSize y) same)
