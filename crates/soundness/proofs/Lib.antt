@@ -6,3 +6,9 @@ pub mod MessageTest
 pub mod SoundTestRun
 pub mod FlowClause
 pub mod SoundTestClause
+pub mod Marks
+pub mod BlockViews
+pub mod Occurring
+pub mod BirthClause
+pub mod ArrivalMarks
+pub mod ArrivalClause
