@@ -23,7 +23,7 @@ use Rattle.reading.specs.Reads.{Holds, OfState, IsPlace}
 use Rattle.writing.specs.declared.spans.Span.{Span}
 use Rattle.writing.specs.Slots.{pushed, without, within, Located, Spanned, NamesRoom}
 use Rattle.writing.specs.Writes.{Leads, Posts, Unposts, CanPost, CanTake}
-use Rattle.writing.proofs.Holding.{of-image, at-image, holding, of-state}
+use Rattle.reading.proofs.Holding.{of-image, at-image, holding, of-state}
 use Rattle.writing.proofs.SlotWrites.{names-count, withNames, pushed-slot, without-slot}
 use Rattle.writing.proofs.StoreWrites.{in-places, queue-few, present-lent, present-changed}
 

@@ -12,7 +12,7 @@ use Rattle.store.proofs.LayoutLaws.{slot-most}
 use Rattle.store.proofs.View.{words-word}
 use Rattle.reading.specs.Reads.{OfState, IsPlace}
 use Rattle.writing.specs.Slots.{Located, Spanned}
-use Rattle.writing.proofs.Holding.{of-state, sizesRead, sizes-read, good-read, slot-in}
+use Rattle.reading.proofs.Holding.{of-state, sizesRead, sizes-read, good-read, slot-in, slot-low}
 
 pub located : (l : List ℕ) (image : IsImage l) (p i from size : ℕ) → OfState l (IsPlace p) → OfState l (λ s. i ≤ s .sizes .entries)
     → from ≡ blocksFrom + p * blockSize (sizesRead l) + i * slotSize (sizesRead l) → size ≡ slotSize (sizesRead l)
@@ -20,6 +20,7 @@ pub located : (l : List ℕ) (image : IsImage l) (p i from size : ℕ) → OfSta
 located l image p i from size hp hi a z = record {
   adds = refl;
   inside = slot-in l image p i from size hp hi a z;
+  low = slot-low l image p i from size hp hi a z;
   head-in = omega arith;
   few-words = sizes-in (sizesRead l) (good-read l image) .words-high;
   small = omega (arith, slot-most (sizesRead l) (good-read l image));

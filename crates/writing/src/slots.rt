@@ -5,6 +5,8 @@ use store::layout::SLOT_HEAD;
 ghost use mathlib.Core.Path.{_≡_};
 ghost use Prim.Native.Nat.{_+_, _<_};
 ghost use lib.ListN.{length, getD};
+ghost use mathlib.Core.List.{[]};
+ghost use Rattle.lists.specs.Fill.{fillTo};
 ghost use Rattle.store.specs.Layout.{slotHead, kindLive};
 ghost use Rattle.writing.specs.Slots.{controlled, pushed, without, begun, copied, ControlRoom, NamesRoom, CopyRoom};
 
@@ -75,4 +77,12 @@ pub fn copy_slot(
     held[4] = queued;
     let to_end = to + count;
     fill(&mut store[to..to_end], &held);
+}
+
+// Zeros.
+pub fn clear(part: &mut [u32])
+    ensures { λ _. ⌜ now (part .exit) ≡ fillTo (length (now (part .entry))) 0 [] ⌝ }
+{
+    let zero = [0u32];
+    fill(part, &zero);
 }

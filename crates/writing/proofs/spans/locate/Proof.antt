@@ -1,5 +1,5 @@
 use native.Mathlib.Omega.{arith}
-use Rattle.writing.proofs.Holding.{head-in, good-read, place-read, index-read, slot-low}
+use Rattle.reading.proofs.Holding.{head-in, good-read, place-read, index-read, slot-low}
 use Rattle.writing.proofs.SpanLaws.{located}
 use Rattle.writing.proofs.spans.locate.Statement.{statement}
 use Rattle.writing.proofs.spans.locate.Tie as tie
