@@ -1,5 +1,4 @@
 use Rattle.reading.proofs.StateReads.{first-slot, control-fits, control-out}
-use native.Mathlib.Omega.{arith}
 use Rattle.reading.proofs.state.control.Statement.{statement}
 use Rattle.reading.proofs.state.control.Tie as tie
 use Rattle.reading.proofs.state.control.Reads as reads

@@ -3,7 +3,7 @@ use Rattle.reading.proofs.StateReads.{head-of, count-none, count-free, 
 use Rattle.reading.specs.Reads.{OfState}
 use Rattle.rules.specs.State.{historyAt}
 use lib.ListN.{length}
-use Prim.Native.Nat.{_+_, _-_, _≤_}
+use Prim.Native.Nat.{_-_, _≤_}
 use native.Mathlib.Omega.{arith}
 use Rattle.reading.proofs.state.entry_count.Statement.{statement}
 use Rattle.reading.proofs.state.entry_count.Tie as tie

@@ -1,5 +1,4 @@
 use Rattle.reading.proofs.StateReads.{first-slot, names-fit, queue-out}
-use native.Mathlib.Omega.{arith}
 use borrow.Author.Needs.{needs}
 use Rattle.reading.proofs.state.queue.Statement.{statement}
 use Rattle.reading.proofs.state.queue.Tie as tie
