@@ -7,8 +7,6 @@ use native.Mathlib.Omega.{arith}
 use Rattle.reading.proofs.MailReads.{among-here, among-next, among-none}
 use Rattle.reading.proofs.mail.among.Statement.{statement}
 use Rattle.reading.proofs.mail.among.Tie as tie
-use Rattle.reading.proofs.mail.among.Reads as reads
-use Rattle.reading.proofs.mail.among.Lts as lts
 
 abbrev Inv-loop : tie.InvT-loop
 Inv-loop names name i₀ i = (i ≤ length names) × (member name names ≡ member name (drop i names))
@@ -16,35 +14,27 @@ Inv-loop names name i₀ i = (i ≤ length names) × (member name names ≡ memb
 abbrev μ-loop : tie.MeasureT-loop
 μ-loop names name i₀ i = length names - i
 
--- src/mail.rt:107:5
 loop-holds : tie.Need-loop-holds Inv-loop μ-loop
 loop-holds c = (omega arith, refl)
 
--- src/mail.rt:108:12
 mul-if1 : tie.Need-mul-if1 Inv-loop μ-loop
 mul-if1 c = search needs
 
--- src/mail.rt:108:12
 shared-slice-read-if1 : tie.Need-shared-slice-read-if1 Inv-loop μ-loop
 shared-slice-read-if1 c = search needs
 
--- src/mail.rt:109:13
 returns : tie.Need-returns Inv-loop μ-loop
 returns c = among-here _ _ _ (c .before .before .before .loop .inv .1) (c .before .before .loop-test .taken) (c .if1 .taken)
 
--- src/mail.rt:111:9
 add-i : tie.Need-add-i Inv-loop μ-loop
 add-i c = search needs
 
--- src/mail.rt:107:5
 loop-less : tie.Need-loop-less Inv-loop μ-loop
 loop-less c = search needs
 
--- src/mail.rt:107:5
 loop-again : tie.Need-loop-again Inv-loop μ-loop
 loop-again c = (search needs, among-next _ _ _ (c .before .before .before .loop .inv .1) (c .before .before .loop-test .taken) (c .if1 .left))
 
--- src/mail.rt:103:1
 returns-2 : tie.Need-returns-2 Inv-loop μ-loop
 returns-2 c = among-none _ _ _ (c .before .loop .inv .1) (c .before .loop .inv .0) (c .loop-test .left)
 

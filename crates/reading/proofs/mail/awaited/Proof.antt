@@ -8,10 +8,6 @@ use native.Mathlib.Omega.{arith}
 use Rattle.reading.proofs.FlightReads.{fromPlace, place-low, end-place, calm-start, calm-more, awaited-here, awaited-none}
 use Rattle.reading.proofs.mail.awaited.Statement.{statement}
 use Rattle.reading.proofs.mail.awaited.Tie as tie
-use Rattle.reading.proofs.mail.awaited.Reads as reads
-use Rattle.reading.proofs.mail.awaited.Lts as lts
-use Rattle.reading.proofs.mail.awaited_from.Reads as awaited-from-reads
-use Rattle.reading.proofs.state.places.Reads as places-reads
 
 abbrev Inv-loop : tie.InvT-loop
 Inv-loop store q end s₀ s = (s ≤ end) × OfState store (λ st. any (fromPlace st q) (upTo s) ≡ false)
@@ -19,39 +15,30 @@ Inv-loop store q end s₀ s = (s ≤ end) × OfState store (λ st. any (fromPlac
 abbrev μ-loop : tie.MeasureT-loop
 μ-loop store q end s₀ s = end - s
 
--- src/mail.rt:202:9
 places-requires : tie.Need-places-requires Inv-loop μ-loop
 places-requires c κs = c .before .pre .0
 
--- src/mail.rt:204:5
 loop-holds : tie.Need-loop-holds Inv-loop μ-loop
 loop-holds c = (omega arith, calm-start _ _)
 
--- src/mail.rt:205:35
 cast-awaited-from : tie.Need-cast-awaited-from Inv-loop μ-loop
 cast-awaited-from c = omega (arith, place-low _ _ (c .before .before .before .before .pre .0) (c .before .before .before .before .pre .1))
 
--- src/mail.rt:205:12
 awaited-from-requires : tie.Need-awaited-from-requires Inv-loop μ-loop
 awaited-from-requires c κs = (c .before .before .before .before .pre .0, end-place _ _ _ (c .before .before .places .ensures) (c .loop-test .taken), c .before .before .before .before .pre .1)
 
--- src/mail.rt:206:13
 returns : tie.Need-returns Inv-loop μ-loop
 returns c = awaited-here _ _ _ _ (c .before .awaited-from .ensures) (c .if1 .taken) (end-place _ _ _ (c .before .before .before .before .places .ensures) (c .before .before .loop-test .taken))
 
--- src/mail.rt:208:9
 add-s : tie.Need-add-s Inv-loop μ-loop
 add-s c = search needs
 
--- src/mail.rt:204:5
 loop-less : tie.Need-loop-less Inv-loop μ-loop
 loop-less c = search needs
 
--- src/mail.rt:204:5
 loop-again : tie.Need-loop-again Inv-loop μ-loop
 loop-again c = (search needs, calm-more _ _ _ _ (c .before .awaited-from .ensures) (c .if1 .left) (c .before .before .before .loop .inv .1))
 
--- src/mail.rt:198:1
 returns-2 : tie.Need-returns-2 Inv-loop μ-loop
 returns-2 c = awaited-none _ _ _ _ (c .before .before .places .ensures) (c .before .loop .inv .1) (c .before .loop .inv .0) (c .loop-test .left)
 

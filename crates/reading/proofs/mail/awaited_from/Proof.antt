@@ -5,11 +5,6 @@ use Rattle.reading.proofs.FlightReads.{NameAt, Quiet, quiet-start, name
 use Rattle.reading.proofs.MailReads.{end-entry, here-low}
 use Rattle.reading.proofs.mail.awaited_from.Statement.{statement}
 use Rattle.reading.proofs.mail.awaited_from.Tie as tie
-use Rattle.reading.proofs.mail.awaited_from.Reads as reads
-use Rattle.reading.proofs.mail.awaited_from.Lts as lts
-use Rattle.reading.proofs.mail.flies_to.Reads as flies-to-reads
-use Rattle.reading.proofs.mail.send_at.Reads as send-at-reads
-use Rattle.reading.proofs.state.entry_count.Reads as entry-count-reads
 
 abbrev Inv-loop : tie.InvT-loop
 Inv-loop store s q end name₀ i₀ name i = (i ≤ end) × NameAt store s i name × Quiet store s q i
@@ -17,51 +12,39 @@ Inv-loop store s q end name₀ i₀ name i = (i ≤ end) × NameAt store s i nam
 abbrev μ-loop : tie.MeasureT-loop
 μ-loop store s q end name₀ i₀ name i = end - i
 
--- src/mail.rt:184:9
 entry-count-requires : tie.Need-entry-count-requires Inv-loop μ-loop
 entry-count-requires c κs = (c .before .pre .0, c .before .pre .1)
 
--- src/mail.rt:185:20
 cast-name : tie.Need-cast-name Inv-loop μ-loop
 cast-name c = omega (arith, place-low _ _ (c .before .before .pre .0) (c .before .before .pre .1))
 
--- src/mail.rt:185:20
 mul-name : tie.Need-mul-name Inv-loop μ-loop
 mul-name c = omega (arith, place-low _ _ (c .before .before .pre .0) (c .before .before .pre .1))
 
--- src/mail.rt:187:5
 loop-holds : tie.Need-loop-holds Inv-loop μ-loop
 loop-holds c = (omega arith, name-start _ _, quiet-start _ _ _)
 
--- src/mail.rt:188:12
 flies-to-requires : tie.Need-flies-to-requires Inv-loop μ-loop
 flies-to-requires c κs = (c .before .before .before .before .pre .0, (end-entry _ _ _ _ (c .before .before .entry-count .ensures) (c .loop-test .taken)), c .before .before .before .before .pre .2, c .before .loop .inv .1)
 
--- src/mail.rt:189:13
 returns : tie.Need-returns Inv-loop μ-loop
 returns c = flies-found _ _ _ _ _ (end-entry _ _ _ _ (c .before .before .before .before .entry-count .ensures) (c .before .before .loop-test .taken)) (c .before .flies-to .ensures) (c .if1 .taken)
 
--- src/mail.rt:191:17
 send-at-requires : tie.Need-send-at-requires Inv-loop μ-loop
 send-at-requires c κs = (c .before .before .before .before .before .before .pre .0, (end-entry _ _ _ _ (c .before .before .before .before .entry-count .ensures) (c .before .before .loop-test .taken)))
 
--- src/mail.rt:191:9
 add-name : tie.Need-add-name Inv-loop μ-loop
 add-name c = omega (arith, name-low _ _ _ _ (c .before .before .before .before .before .before .before .pre .0) (c .before .before .before .before .before .before .before .pre .1) (c .before .before .before .before .loop .inv .1), here-low _ _ _ _ (end-entry _ _ _ _ (c .before .before .before .before .before .entry-count .ensures) (c .before .before .before .loop-test .taken)) (c .send-at .ensures) (c .before .before .before .before .before .before .before .pre .0))
 
--- src/mail.rt:192:9
 add-i : tie.Need-add-i Inv-loop μ-loop
 add-i c = search needs
 
--- src/mail.rt:187:5
 loop-less : tie.Need-loop-less Inv-loop μ-loop
 loop-less c = search needs
 
--- src/mail.rt:187:5
 loop-again : tie.Need-loop-again Inv-loop μ-loop
 loop-again c = (search needs, name-more _ _ _ _ _ (end-entry _ _ _ _ (c .before .before .before .before .before .entry-count .ensures) (c .before .before .before .loop-test .taken)) (c .send-at .ensures) (c .before .before .before .before .loop .inv .1), quiet-more _ _ _ _ _ (end-entry _ _ _ _ (c .before .before .before .before .before .entry-count .ensures) (c .before .before .before .loop-test .taken)) (c .before .before .flies-to .ensures) (c .before .if1 .left) (c .before .before .before .before .loop .inv .2))
 
--- src/mail.rt:180:1
 returns-2 : tie.Need-returns-2 Inv-loop μ-loop
 returns-2 c = quiet-all _ _ _ _ _ (c .before .before .entry-count .ensures) (c .before .loop .inv .2) (c .before .loop .inv .0) (c .loop-test .left)
 

@@ -8,10 +8,6 @@ use native.Mathlib.Omega.{arith}
 use Rattle.reading.proofs.MailReads.{end-entry, left-start, left-more, found-here, found-none}
 use Rattle.reading.proofs.mail.find_send.Statement.{statement}
 use Rattle.reading.proofs.mail.find_send.Tie as tie
-use Rattle.reading.proofs.mail.find_send.Reads as reads
-use Rattle.reading.proofs.mail.find_send.Lts as lts
-use Rattle.reading.proofs.mail.send_at.Reads as send-at-reads
-use Rattle.reading.proofs.state.entry_count.Reads as entry-count-reads
 
 abbrev Inv-loop : tie.InvT-loop
 Inv-loop store p count end left₀ i₀ left i = (i ≤ end) × OfState store (λ s. count ≡ left + sends (oldest i (historyAt s p)))
@@ -19,35 +15,27 @@ Inv-loop store p count end left₀ i₀ left i = (i ≤ end) × OfState store (�
 abbrev μ-loop : tie.MeasureT-loop
 μ-loop store p count end left₀ i₀ left i = end - i
 
--- src/mail.rt:98:9
 entry-count-requires : tie.Need-entry-count-requires Inv-loop μ-loop
 entry-count-requires c κs = c .before .pre
 
--- src/mail.rt:101:5
 loop-holds : tie.Need-loop-holds Inv-loop μ-loop
 loop-holds c = (omega arith, left-start _ _ _)
 
--- src/mail.rt:102:13
 send-at-requires : tie.Need-send-at-requires Inv-loop μ-loop
 send-at-requires c κs = (c .before .before .before .before .pre .0, end-entry _ _ _ _ (c .before .before .entry-count .ensures) (c .loop-test .taken))
 
--- src/mail.rt:104:13
 returns : tie.Need-returns Inv-loop μ-loop
 returns c = found-here _ _ _ _ (end-entry _ _ _ _ (c .before .before .before .before .entry-count .ensures) (c .before .before .loop-test .taken)) (c .before .send-at .ensures) _ _ (c .before .before .before .loop .inv .1) (c .if1 .taken)
 
--- src/mail.rt:107:9
 add-i : tie.Need-add-i Inv-loop μ-loop
 add-i c = search needs
 
--- src/mail.rt:101:5
 loop-less : tie.Need-loop-less Inv-loop μ-loop
 loop-less c = search needs
 
--- src/mail.rt:101:5
 loop-again : tie.Need-loop-again Inv-loop μ-loop
 loop-again c = (search needs, left-more _ _ _ _ (end-entry _ _ _ _ (c .before .before .before .before .entry-count .ensures) (c .before .before .loop-test .taken)) (c .before .send-at .ensures) _ _ (c .before .before .before .loop .inv .1) (c .if1 .left))
 
--- src/mail.rt:94:1
 returns-2 : tie.Need-returns-2 Inv-loop μ-loop
 returns-2 c = found-none _ _ _ _ _ _ (c .before .before .entry-count .ensures) (c .before .loop .inv .1) (omega arith) (omega arith)
 

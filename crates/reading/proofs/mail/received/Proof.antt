@@ -10,10 +10,6 @@ use native.Mathlib.Omega.{arith}
 use Rattle.reading.proofs.MailReads.{byName, end-entry, received-start, received-here, received-next, received-none}
 use Rattle.reading.proofs.mail.received.Statement.{statement}
 use Rattle.reading.proofs.mail.received.Tie as tie
-use Rattle.reading.proofs.mail.received.Reads as reads
-use Rattle.reading.proofs.mail.received.Lts as lts
-use Rattle.reading.proofs.mail.took.Reads as took-reads
-use Rattle.reading.proofs.state.entry_count.Reads as entry-count-reads
 
 abbrev Inv-loop : tie.InvT-loop
 Inv-loop store t name end i₀ i = (i ≤ end) × OfState store (λ s. any (byName name) (taken (oldest i (historyAt s t))) ≡ false)
@@ -21,35 +17,27 @@ Inv-loop store t name end i₀ i = (i ≤ end) × OfState store (λ s. any (byNa
 abbrev μ-loop : tie.MeasureT-loop
 μ-loop store t name end i₀ i = end - i
 
--- src/mail.rt:143:9
 entry-count-requires : tie.Need-entry-count-requires Inv-loop μ-loop
 entry-count-requires c κs = c .before .pre
 
--- src/mail.rt:145:5
 loop-holds : tie.Need-loop-holds Inv-loop μ-loop
 loop-holds c = (omega arith, received-start _ _ _)
 
--- src/mail.rt:146:12
 took-requires : tie.Need-took-requires Inv-loop μ-loop
 took-requires c κs = (c .before .before .before .before .pre .0, end-entry _ _ _ _ (c .before .before .entry-count .ensures) (c .loop-test .taken))
 
--- src/mail.rt:147:13
 returns : tie.Need-returns Inv-loop μ-loop
 returns c = received-here _ _ _ _ _ (end-entry _ _ _ _ (c .before .before .before .before .entry-count .ensures) (c .before .before .loop-test .taken)) (c .before .took .ensures) (c .if1 .taken)
 
--- src/mail.rt:149:9
 add-i : tie.Need-add-i Inv-loop μ-loop
 add-i c = search needs
 
--- src/mail.rt:145:5
 loop-less : tie.Need-loop-less Inv-loop μ-loop
 loop-less c = search needs
 
--- src/mail.rt:145:5
 loop-again : tie.Need-loop-again Inv-loop μ-loop
 loop-again c = (search needs, received-next _ _ _ _ _ (end-entry _ _ _ _ (c .before .before .before .before .entry-count .ensures) (c .before .before .loop-test .taken)) (c .before .took .ensures) (c .if1 .left) (c .before .before .before .loop .inv .1))
 
--- src/mail.rt:139:1
 returns-2 : tie.Need-returns-2 Inv-loop μ-loop
 returns-2 c = received-none _ _ _ _ _ (c .before .before .entry-count .ensures) (c .before .loop .inv .1) (omega arith) (omega arith)
 

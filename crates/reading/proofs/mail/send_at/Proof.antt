@@ -2,19 +2,13 @@ use Rattle.reading.proofs.MailReads.{send-one, send-other}
 use borrow.Author.Needs.{needs}
 use Rattle.reading.proofs.mail.send_at.Statement.{statement}
 use Rattle.reading.proofs.mail.send_at.Tie as tie
-use Rattle.reading.proofs.mail.send_at.Reads as reads
-use Rattle.reading.proofs.mail.send_at.Lts as lts
-use Rattle.reading.proofs.entries.kind.Reads as kind-reads
 
--- src/mail.rt:73:8
 kind-requires : tie.Need-kind-requires
 kind-requires c κs = search needs
 
--- src/mail.rt:74:9
 returns : tie.Need-returns
 returns c = send-one _ _ _ _ (c .before .kind .ensures) (c .if1 .taken)
 
--- src/mail.rt:69:1
 returns-2 : tie.Need-returns-2
 returns-2 c = send-other _ _ _ _ (c .before .kind .ensures) (c .if1 .left)
 

@@ -5,9 +5,6 @@ use native.Mathlib.Omega.{arith}
 use Rattle.reading.proofs.MailReads.{CountAt, index-entry, index-low, here-low, counted, count-start, count-done}
 use Rattle.reading.proofs.mail.sends_before.Statement.{statement}
 use Rattle.reading.proofs.mail.sends_before.Tie as tie
-use Rattle.reading.proofs.mail.sends_before.Reads as reads
-use Rattle.reading.proofs.mail.sends_before.Lts as lts
-use Rattle.reading.proofs.mail.send_at.Reads as send-at-reads
 
 abbrev Inv-loop : tie.InvT-loop
 Inv-loop store p i count₀ j₀ count j = (j ≤ i) × (count ≤ j) × CountAt store p j count
@@ -21,31 +18,24 @@ there c = index-entry _ _ _ _ (c .before .before .before .before .pre .2) (c .be
 low : (c : tie.After-send-at Inv-loop μ-loop) → c .send-at .result ≤ 1
 low c = here-low _ _ _ _ (there c) (c .send-at .ensures) (c .before .before .before .before .pre .0)
 
--- src/mail.rt:86:5
 loop-holds : tie.Need-loop-holds Inv-loop μ-loop
 loop-holds c = (omega arith, omega arith, count-start _ _)
 
--- src/mail.rt:87:18
 send-at-requires : tie.Need-send-at-requires Inv-loop μ-loop
 send-at-requires c κs = (c .before .before .before .pre .0, index-entry _ _ _ _ (c .before .before .before .pre .2) (c .loop-test .taken))
 
--- src/mail.rt:87:9
 add-count : tie.Need-add-count Inv-loop μ-loop
 add-count c = omega (arith, low c, index-low _ _ _ (c .before .before .before .before .pre .0) (c .before .before .before .before .pre .2))
 
--- src/mail.rt:88:9
 add-j : tie.Need-add-j Inv-loop μ-loop
 add-j c = omega (arith, index-low _ _ _ (c .before .before .before .before .pre .0) (c .before .before .before .before .pre .2))
 
--- src/mail.rt:86:5
 loop-less : tie.Need-loop-less Inv-loop μ-loop
 loop-less c = search needs
 
--- src/mail.rt:86:5
 loop-again : tie.Need-loop-again Inv-loop μ-loop
 loop-again c = (omega arith, omega (arith, low c), counted _ _ _ _ (there c) (c .send-at .ensures) _ (c .before .before .loop .inv .2))
 
--- src/mail.rt:80:1
 returns : tie.Need-returns Inv-loop μ-loop
 returns c = count-done _ _ _ _ _ (c .before .loop .inv .2) (omega arith) (omega arith)
 

@@ -3,41 +3,28 @@ use Rattle.reading.proofs.MailReads.{took-not, took-in, took-out}
 use borrow.Author.Needs.{needs}
 use Rattle.reading.proofs.mail.took.Statement.{statement}
 use Rattle.reading.proofs.mail.took.Tie as tie
-use Rattle.reading.proofs.mail.took.Reads as reads
-use Rattle.reading.proofs.mail.took.Lts as lts
-use Rattle.reading.proofs.entries.kind.Reads as kind-reads
-use Rattle.reading.proofs.entries.number.Reads as number-reads
-use Rattle.reading.proofs.entries.queue_before.Reads as queue-before-reads
 
--- src/mail.rt:131:8
 kind-requires : tie.Need-kind-requires
 kind-requires c κs = search needs
 
--- src/mail.rt:132:18
 number-requires : tie.Need-number-requires
 number-requires c κs = search needs
 
--- src/mail.rt:132:18
 cast-at : tie.Need-cast-at
 cast-at c = search needs
 
--- src/mail.rt:133:16
 queue-before-requires : tie.Need-queue-before-requires
 queue-before-requires c κs = search needs
 
--- src/mail.rt:133:16
 mul-result : tie.Need-mul-result
 mul-result c = search needs
 
--- src/mail.rt:133:16
 shared-slice-read-result : tie.Need-shared-slice-read-result
 shared-slice-read-result c = took-in _ _ _ _ _ _ (c .before .before .before .before .kind .ensures) (c .before .before .before .if1 .taken) (c .before .before .number .ensures) (c .before .queue-before .ensures) (c .before .before .before .before .before .before .pre .0) (c .before .before .before .before .before .before .pre .1)
 
--- src/mail.rt:133:9
 returns : tie.Need-returns
 returns c = took-out _ _ _ _ _ _ (c .before .before .before .before .kind .ensures) (c .before .before .before .if1 .taken) (c .before .before .number .ensures) (c .before .queue-before .ensures) _
 
--- src/mail.rt:127:1
 returns-2 : tie.Need-returns-2
 returns-2 c = took-not _ _ _ _ 0 [] (c .before .kind .ensures) _ (c .if1 .left)
 

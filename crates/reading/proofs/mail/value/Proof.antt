@@ -2,25 +2,16 @@ use Rattle.reading.proofs.SendReads.{send-entry, before-short, value-ou
 use borrow.Author.Needs.{needs}
 use Rattle.reading.proofs.mail.value.Statement.{statement}
 use Rattle.reading.proofs.mail.value.Tie as tie
-use Rattle.reading.proofs.mail.value.Reads as reads
-use Rattle.reading.proofs.mail.value.Lts as lts
-use Rattle.reading.proofs.entries.before.Reads as before-reads
-use Rattle.reading.proofs.mail.part_of.Reads as part-of-reads
-use Rattle.step.proofs.control.sent.Reads as sent-reads
 
--- src/mail.rt:61:9
 before-requires : tie.Need-before-requires
 before-requires c κs = (c .before .pre .0, send-entry _ _ _ (c .before .pre .1))
 
--- src/mail.rt:62:9
 sent-requires : tie.Need-sent-requires
 sent-requires c κs = before-short _ _ _ _ (c .before2 .ensures) (c .before .before .pre .0) (c .before .before .pre .1)
 
--- src/mail.rt:63:5
 part-of-requires : tie.Need-part-of-requires
 part-of-requires c κs = search needs
 
--- src/mail.rt:57:1
 returns : tie.Need-returns
 returns c = value-out _ _ _ _ (c .before .before .before2 .ensures) _ (c .before .sent .ensures) _ (c .part-of .ensures)
 
