@@ -6,3 +6,4 @@ pub mod MessageTest
 pub mod SoundTestRun
 pub mod FlowClause
 pub mod SoundTestClause
+pub mod SendTest

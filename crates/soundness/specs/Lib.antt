@@ -1,1 +1,2 @@
 pub mod SoundTests
+pub mod SendTests

@@ -2,4 +2,5 @@
 pub mod flows;
 pub mod messages;
 pub mod sound_births;
+pub mod sound_sends;
 pub mod sound_shape;
