@@ -54,6 +54,12 @@ arity-of end k f e = none-not-some e
 arity-of (g then gs) zero f e = ap (λ (h : Term). some (parametersOf h)) (some-injective e)
 arity-of (g then gs) (suc k) f e = arity-of gs k f e
 
+no-arity : (fs : Terms) (k : ℕ) → functionOf fs k ≡ none → getElem? (aritiesOf fs) k ≡ none
+unfolding functionOf aritiesOf
+no-arity end k e = refl
+no-arity (g then gs) zero e = none-not-some (sym e)
+no-arity (g then gs) (suc k) e = no-arity gs k e
+
 abbrev onCount : ℕ → Option ℕ → Bool
 onCount n o = elim o [ none ↦ false | some count ↦ eqb count n ]
 
@@ -63,6 +69,13 @@ names-by arities k n o e = ap (onCount n) e
 
 pub named : (fs : Terms) (k n : ℕ) (f : Term) → names (aritiesOf fs) k n ≡ true → functionOf fs k ≡ some f → parametersOf f ≡ n
 named fs k n f h e = eqb-true (parametersOf f) n (sym (names-by (aritiesOf fs) k n (some (parametersOf f)) (arity-of fs k f e)) ∙ h)
+
+-- a function that is named is there
+pub named-there : (fs : Terms) (k n : ℕ) → names (aritiesOf fs) k n ≡ true → (f : Term) × (functionOf fs k ≡ some f)
+named-there fs k n h = elim (none-or-some (functionOf fs k)) [
+  | inl e ↦ true-not-false h (names-by (aritiesOf fs) k n none (no-arity fs k e))
+  | inr o ↦ o
+]
 
 -- what a module that passes the check has
 pub record GoodModule (fs : Terms) : Type 0 where

@@ -4,10 +4,9 @@ use Prim.Native.Nat.{ℕ, suc, _≤_}
 use mathlib.Core.Path.{_≡_, ap, _∙_}
 use mathlib.Core.Option.{none}
 use mathlib.Core.List.{List, [], _∷_}
-use native.Mathlib.Omega.{arith}
 use lib.ListN.{replicate}
 use Rattle.term.specs.Table.{spotFunction}
-use Rattle.term.specs.Tree.{Term, Terms, words}
+use Rattle.term.specs.Tree.{Term, words}
 use Rattle.term.specs.Read.{termsOf, termOf}
 use Rattle.term.specs.Shape.{shape, moduleShape}
 use Rattle.term.proofs.ReadLaws

@@ -8,7 +8,7 @@ use native.Mathlib.Omega.{arith}
 use lib.Dec.{eqb, leb}
 use lib.ListN.{replicate}
 use Rattle.lists.specs.Lists.{member, All}
-use Rattle.lists.proofs.Tests.{eqb-of, true-or-false, true-not-false, and-left, and-right}
+use Rattle.lists.proofs.Tests.{eqb-of, true-or-false, true-not-false, and-left, and-right, and-of}
 use Rattle.lists.proofs.MemberTest.{member-all}
 use Rattle.term.specs.Words.{tagVariable, tagAtom, tagInteger, tagPid, tagTuple}
 use Rattle.term.specs.Table.{alike, rowOf, tagsAt, kLimit, ownSpot, spotsBelow, spotExpression, spotGuard, spotValue}
@@ -17,7 +17,7 @@ use Rattle.term.proofs.Keep.{Keeps, KeepsAll}
 use Rattle.machine.specs.Value.{isValue, areValues}
 use Rattle.machine.specs.Laws.{PidIn, PidAmong}
 use Rattle.machine.proofs.Sits.{Stands, spotsUnder, Sits, SitAll}
-use Rattle.machine.proofs.TagLaws.{outsideSpots, Outside, OfValue, value-tag, between-value, tags-lift}
+use Rattle.machine.proofs.TagLaws.{outsideSpots, Outside, OfValue, value-tag, between-value, value-between, tags-lift}
 
 pub under-alike : (s tag n : ℕ) → rowOf tag .children ≡ alike → spotsUnder s tag n ≡ replicate n (ownSpot s tag)
 unfolding spotsBelow
@@ -62,6 +62,12 @@ module _ (places : ℕ) where
       let o = value-tag places tag (h .0 .tag-there) in
       (stands-at spotGuard (h .0) (o .as-guard p), rw (under-guard places tag n o) (rw (under-value places tag n o) at (h .1)))
 
+  pub guard-value : (tag n k : ℕ) (ts : Terms) → member tag (tagsAt places spotValue) ≡ true → Sits places spotGuard (node tag n k ts) → Sits places spotValue (node tag n k ts)
+  unfolding Sits
+  guard-value tag n k ts m h =
+      let o = value-tag places tag m in
+      (stands-at spotValue (h .0) m, rw (under-value places tag n o) (rw (under-guard places tag n o) at (h .1)))
+
   -- a value may stand wherever a variable may
   pub value-anywhere : (v : Term) (s : ℕ) → eqb places 0 ≡ false → Outside s → member tagVariable (tagsAt places s) ≡ true → Sits places spotValue v → Sits places s v
   unfolding All tagsAt member
@@ -102,6 +108,21 @@ module _ (places : ℕ) where
     are-values end (suc n) h v = h
     are-values (t then ts) zero h v = absurd h
     are-values (t then ts) (suc n) h v = (is-value t (h .0) (and-left (isValue t) (areValues ts) v), are-values ts n (h .1) (and-right (isValue t) (areValues ts) v))
+
+  -- and what stands there is a value
+  mutual
+    unfolding Sits SitAll isValue areValues
+
+    pub value-is : (v : Term) → Sits places spotValue v → isValue v ≡ true
+    value-is (int x) h = refl
+    value-is (node tag n k ts) h =
+        let m = h .0 .tag-there in
+        and-of (value-between places tag m) (values-are ts n (rw (under-value places tag n (value-tag places tag m)) at (h .1)))
+
+    pub values-are : (vs : Terms) (n : ℕ) → SitAll places vs (replicate n spotValue) → areValues vs ≡ true
+    values-are end n h = refl
+    values-are (v then vs) zero h = absurd h
+    values-are (v then vs) (suc n) h = and-of (value-is v (h .0)) (values-are vs n (h .1))
 
   k-lift : (tag k : ℕ) → k < kLimit 0 tag → k < kLimit places tag
   unfolding kLimit

@@ -34,7 +34,7 @@ use Rattle.machine.proofs.FitLaws.{sit-count}
 use Rattle.machine.proofs.ModuleLaws.{GoodModule, named}
 
 -- children that are gone into are values, where the term is ready
-ready-head : (t : Term) (ts : Terms) (m : ℕ) → ready (t then ts) (suc m) ≡ true → (isValue t ≡ true) × (ready ts m ≡ true)
+pub ready-head : (t : Term) (ts : Terms) (m : ℕ) → ready (t then ts) (suc m) ≡ true → (isValue t ≡ true) × (ready ts m ≡ true)
 unfolding ready
 ready-head t ts m h = elim (true-or-false (isValue t)) [
   | inl e ↦ (e, sym (ready-past t ts m e) ∙ h)
@@ -69,7 +69,7 @@ child-right places arities n k ts r =
     }
 
 -- apply and spawn name functions rightly
-names-of : (arities scope : List ℕ) (n k : ℕ) → keepsRule arities false scope [] tagApply n k ≡ true → names arities k n ≡ true
+pub names-of : (arities scope : List ℕ) (n k : ℕ) → keepsRule arities false scope [] tagApply n k ≡ true → names arities k n ≡ true
 unfolding keepsRule
 names-of arities scope n k h = h
 

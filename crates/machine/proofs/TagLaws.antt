@@ -101,6 +101,10 @@ all-between places =
 pub between-value : (places tag : ℕ) → member tag (tagsAt places spotExpression) ≡ true → (leb tagAtom tag && leb tag tagTuple) ≡ true → member tag (tagsAt places spotValue) ≡ true
 between-value places tag = member-all (λ tag′. (leb tagAtom tag′ && leb tag′ tagTuple) ≡ true → member tag′ (tagsAt places spotValue) ≡ true) tag (tagsAt places spotExpression) (all-between places)
 
+pub value-between : (places tag : ℕ) → member tag (tagsAt places spotValue) ≡ true → (leb tagAtom tag && leb tag tagTuple) ≡ true
+unfolding All tagsAt
+value-between places tag = member-all (λ tag′. (leb tagAtom tag′ && leb tag′ tagTuple) ≡ true) tag (tagsAt places spotValue) (refl also refl also refl also refl also refl also refl also tt)
+
 guard-lift : (places tag : ℕ) → member tag (tagsAt 0 spotGuard) ≡ true → member tag (tagsAt places spotGuard) ≡ true
 unfolding All tagsAt member
 guard-lift places tag h = member-all (λ tag′. member tag′ (tagsAt places spotGuard) ≡ true) tag (tagsAt 0 spotGuard) (refl also refl also refl also refl also refl also tt) h

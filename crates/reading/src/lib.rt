@@ -1,2 +1,5 @@
 // What stands in a store that is the image of a sound state.
+pub mod entries;
 pub mod found;
+pub mod slots;
+pub mod state;

@@ -7,3 +7,9 @@ pub mod SoundTestRun
 pub mod FlowClause
 pub mod SoundTestClause
 pub mod SendTest
+pub mod Marks
+pub mod BlockViews
+pub mod Occurring
+pub mod BirthClause
+pub mod ArrivalMarks
+pub mod ArrivalClause

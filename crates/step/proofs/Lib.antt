@@ -17,3 +17,6 @@ pub mod RowApply
 pub mod RowSeq
 pub mod RowSend
 pub mod RowChild
+pub mod PlainTerms
+pub mod Redexes
+pub mod Ready
