@@ -8,14 +8,13 @@ use native.Mathlib.Omega.{arith}
 use mathlib.Core.Logic.{_⊎_, inl, inr}
 use types.Run.{OneOf}
 use denote.Enum.Declared.{tagOf}
-use lib.Dec.{eqb}
 use lib.ListN.{length, take, drop, getD, set, List·getD-eq-default}
 use Rattle.lists.specs.Lists.{All}
 use Rattle.lists.proofs.Tests.{eqb-of, eqb-apart, cond-true, cond-false}
 use Rattle.lists.proofs.Blocks.{chop}
-use Rattle.term.specs.Read.{termOf, termsOf}
+use Rattle.term.specs.Read.{termOf}
 use Rattle.machine.specs.Work.{Work, finished, stuck, toSeq, toSend, toReceive, toSpawn, toSelf, toCheck, work}
-use Rattle.step.specs.Controls.{ControlIs, doingOf, DoingOf}
+use Rattle.step.specs.Controls.{doingOf, DoingOf}
 use Rattle.step.specs.declared.work.Doing.{Doing}
 use Rattle.step.specs.declared.work.Doing.the-variants.{Finished, Stuck, Seq, Send, Receive, Spawn, Own, Check}
 use Rattle.step.proofs.work.Doing.{the-type}

@@ -1,22 +1,18 @@
--- What the functions that note targets of sends, and the whole test, answer. Assumes nothing: these are definitions.
-use Prim.Native.Nat.{ℕ, _+_, _*_, _<_}
+-- What the functions that note the targets of sends answer. Assumes nothing: these are definitions.
+use Prim.Native.Nat.{ℕ, _+_, _<_}
 use mathlib.Core.Path.{_≡_}
-use mathlib.Core.Bool.{Bool, true, false, cond}
+use mathlib.Core.Bool.{Bool, false, cond}
 use mathlib.Core.Option.{Option, none, some}
 use mathlib.Core.List.{List, [], _∷_}
 use lib.Dec.{eqb}
-use lib.ListN.{length, drop, getD, set, replicate}
+use lib.ListN.{length, drop, getD, set}
 use Rattle.lists.specs.Lists.{All}
-use Rattle.lists.specs.Decides.{Decides}
 use Rattle.lists.proofs.Blocks.{chop}
 use Rattle.term.specs.Read.{termOf, termsOf}
-use Rattle.term.specs.Module.{checkModule}
-use Rattle.term.specs.Control.{moduleArities}
 use Rattle.machine.specs.Work.{Work, finished, stuck, toSeq, toSend, toReceive, toSpawn, toSelf, toCheck, work}
 use Rattle.step.specs.Controls.{ControlIs}
-use Rattle.rules.specs.State.{Sizes}
-use Rattle.store.specs.Layout.{slotSize, kindSend}
-use Rattle.soundness.specs.SoundTests.{kindWord, controlIn, answered, andThen, everyOf, placePasses, liveFrom, Births, arriveFrom, placeFlows}
+use Rattle.store.specs.Layout.{kindSend}
+use Rattle.soundness.specs.SoundTests.{kindWord, controlIn, answered, andThen}
 use Rattle.soundness.specs.declared.sound_sends.Sent.{Sent}
 use Rattle.soundness.specs.declared.sound_sends.Sent.the-variants.{No, To, Bad}
 
@@ -76,29 +72,3 @@ pub record NotesPlace (live : List Bool) (size count at : ℕ) (block targets af
 
 pub record NotesPlaces (live : List Bool) (size count : ℕ) (blocks : List (List ℕ)) (targets after : List ℕ) (r : Bool) : Type 0 where
   pub same : (module′ : List ℕ) → All (λ b. All (SendReady module′) (entrySlots size count b)) blocks → answered r after ≡ noteFrom module′ live size count 0 blocks targets
-
--- ---- the whole test of slots
-
--- messages: each send to a live place, each message that came was sent to its place and came once, and the prefixes
-pub record MessagesPass (module′ : List ℕ) (live : List Bool) (sizes : Sizes) (blocks : List (List ℕ)) : Type 0 where
-  pub targets : List ℕ
-  pub noted : noteFrom module′ live (slotSize sizes) (sizes .entries) 0 blocks (replicate 1024 0) ≡ some targets
-  pub left : List ℕ
-  pub came : arriveFrom (sizes .words) (slotSize sizes) (sizes .entries) (sizes .places) (sizes .entries) 0 blocks targets ≡ some left
-  pub flow : everyOf (placeFlows (sizes .words) (slotSize sizes) (sizes .entries)) blocks ≡ true
-
-pub record MessagesTested (live : List Bool) (sizes : Sizes) (blocks : List (List ℕ)) (r : Bool) : Type 0 where
-  pub decided : (module′ : List ℕ) → All (λ b. All (SendReady module′) (entrySlots (slotSize sizes) (sizes .entries) b)) blocks → Decides (MessagesPass module′ live sizes blocks) r
-
--- which places are live
-abbrev pub liveIn : List (List ℕ) → List Bool
-liveIn blocks = liveFrom 0 blocks (replicate 16 false)
-
-pub record SlotsPass (module′ : List ℕ) (sizes : Sizes) (blocks : List (List ℕ)) : Type 0 where
-  pub places-pass : everyOf (placePasses (slotSize sizes) (sizes .entries) (sizes .places) (moduleArities module′)) blocks ≡ true
-  pub first-live : getD (liveIn blocks) 0 false ≡ true
-  pub births-pass : Births (slotSize sizes) (sizes .entries) (liveIn blocks) blocks
-  pub messages-pass : MessagesPass module′ (liveIn blocks) sizes blocks
-
-pub record SlotsTested (sizes : Sizes) (arities : List ℕ) (blocks : List (List ℕ)) (r : Bool) : Type 0 where
-  pub decided : (module′ : List ℕ) → checkModule module′ ≡ none → arities ≡ moduleArities module′ → Decides (SlotsPass module′ sizes blocks) r

@@ -1,16 +1,16 @@
-use Prim.Native.Nat.{ℕ, _+_, _≤_, _-_}
-use mathlib.Core.Path.{_≡_, refl, sym, _∙_, ap, subst}
+-- `soundness::sound_sends::note_place` meets its contract.
+use Prim.Native.Nat.{ℕ, _+_, _≤_}
+use mathlib.Core.Path.{_≡_, refl, sym, _∙_, subst}
 use mathlib.Core.List.{List}
 use native.Mathlib.Omega.{arith}
 use denote.Ref.{now}
-use lib.ListN.{length, take, drop, getD, set, length-set}
+use lib.ListN.{length, length-set}
 use lib.Seq.{length-take-le}
 use borrow.Author.Needs.{needs}
 use Rattle.lists.specs.Lists.{All}
 use Rattle.lists.proofs.Blocks.{chop}
 use Rattle.store.specs.Layout.{slotHead}
 use Rattle.soundness.specs.SoundTests.{ControlFits, Slots}
-use Rattle.soundness.specs.SendTests.{SentIs}
 use Rattle.soundness.proofs.SoundTestWalk.{behind, behind-short, slots-behind, slot-in, head-in, slots-next, each-first, each-next}
 use Rattle.soundness.proofs.SendTest.{Noting, noting-start, noting-none, noting-one, noting-bad, noting-done}
 use Rattle.soundness.proofs.sound_sends.note_place.Statement.{statement}

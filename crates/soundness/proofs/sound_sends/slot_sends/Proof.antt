@@ -1,6 +1,5 @@
+-- `soundness::sound_sends::slot_sends` meets its contract.
 use borrow.Author.Needs.{needs}
-use native.Mathlib.Omega.{arith}
-use lib.Seq.{length-take-le}
 use Rattle.soundness.proofs.SendTest.{sent-none, sent-other, sent-outside, sent-dead, sent-live}
 use Rattle.soundness.proofs.sound_sends.slot_sends.Statement.{statement}
 use Rattle.soundness.proofs.sound_sends.slot_sends.Tie as tie
