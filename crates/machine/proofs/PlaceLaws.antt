@@ -23,11 +23,11 @@ use Rattle.machine.proofs.Right.{Right}
 
 -- the clauses of the definitions, by the tests that they make
 module _ (t : Term) (ts : Terms) (m : ℕ) where
-  working-past : (whole : Term) → isValue t ≡ true → workingIn (t then ts) (suc m) whole ≡ workingIn ts m whole
+  pub working-past : (whole : Term) → isValue t ≡ true → workingIn (t then ts) (suc m) whole ≡ workingIn ts m whole
   unfolding working
   working-past whole e = choose-true (workingIn ts m whole) (working t) e
 
-  working-into : (whole : Term) → isValue t ≡ false → workingIn (t then ts) (suc m) whole ≡ working t
+  pub working-into : (whole : Term) → isValue t ≡ false → workingIn (t then ts) (suc m) whole ≡ working t
   unfolding working
   working-into whole e = choose-false (workingIn ts m whole) (working t) e
 
@@ -35,11 +35,15 @@ module _ (t : Term) (ts : Terms) (m : ℕ) where
   unfolding ready
   ready-past e = choose-true (ready ts m) false e
 
-  replaced-past : (new : Term) → isValue t ≡ true → replacedIn (t then ts) (suc m) new ≡ t then replacedIn ts m new
+  pub ready-into : isValue t ≡ false → ready (t then ts) (suc m) ≡ false
+  unfolding ready
+  ready-into e = choose-false (ready ts m) false e
+
+  pub replaced-past : (new : Term) → isValue t ≡ true → replacedIn (t then ts) (suc m) new ≡ t then replacedIn ts m new
   unfolding replaced
   replaced-past new e = choose-true (t then replacedIn ts m new) (replaced t new then ts) e
 
-  replaced-into : (new : Term) → isValue t ≡ false → replacedIn (t then ts) (suc m) new ≡ replaced t new then ts
+  pub replaced-into : (new : Term) → isValue t ≡ false → replacedIn (t then ts) (suc m) new ≡ replaced t new then ts
   unfolding replaced
   replaced-into new e = choose-false (t then replacedIn ts m new) (replaced t new then ts) e
 
@@ -48,7 +52,7 @@ module _ (tag n k : ℕ) (ts : Terms) (new : Term) where
   unfolding replaced
   replaced-whole e = choose-true new (node tag n k (replacedIn ts (entered tag ts) new)) e
 
-  replaced-part : ready ts (entered tag ts) ≡ false → replaced (node tag n k ts) new ≡ node tag n k (replacedIn ts (entered tag ts) new)
+  pub replaced-part : ready ts (entered tag ts) ≡ false → replaced (node tag n k ts) new ≡ node tag n k (replacedIn ts (entered tag ts) new)
   unfolding replaced
   replaced-part e = choose-false new (node tag n k (replacedIn ts (entered tag ts) new)) e
 

@@ -1,10 +1,10 @@
 -- Laws of operands: what they give, when two are the same value, and the operators on them.
-use Prim.Native.Nat.{ℕ, zero, suc, _+_, _-_, _<_, _≤_}
+use Prim.Native.Nat.{ℕ, _+_, _-_, _<_, _≤_}
 use mathlib.Core.Path.{_≡_, refl, sym, ap, ap₂, _∙_, subst}
 use mathlib.Core.Logic.{_⊎_, inl, inr}
 use mathlib.Core.Bool.{Bool, true, false, cond, not, _&&_, _||_}
 use mathlib.Core.Option.{Option, none, some}
-use mathlib.Core.List.{List, [], _∷_, _++_, append-nil}
+use mathlib.Core.List.{List, _++_}
 use native.Mathlib.Omega.{arith}
 use native.Mathlib.Decide.{ℕ-discrete}
 use lib.Dec.{eqb, leb}
@@ -14,14 +14,14 @@ use mir.Syntax.{w32}
 use mir.Val.{SFits}
 use mir.ValLaws.{toZ-ofZ}
 use lib.ListN.{length, drop, getD}
-use Rattle.lists.proofs.Tests.{eqb-of, eqb-same, eqb-apart, eqb-true, leb-true, or-false, true-not-false, none-not-some, some-injective}
+use Rattle.lists.proofs.Tests.{eqb-of, eqb-same, eqb-apart, leb-true, or-false, true-not-false}
 use Rattle.term.specs.Words.{word, tagOf, nOf, kOf, integerWord, tagInteger, tagCons, tagTuple, tagAtom}
-use Rattle.term.specs.Tree.{Term, Terms, int, node, end, _then_, words, wordsOf, count, Head, Whole, WholeAll}
+use Rattle.term.specs.Tree.{Term, Terms, int, node, end, _then_, words, wordsOf, count, Head, WholeAll}
 use Rattle.term.specs.Value.{isValue, areValues}
 use Rattle.machine.specs.Value.{sameTerm, sameTerms, truth}
 use Rattle.machine.specs.Operator.{signed, unsigned, ranged, divided, onIntegers, ifIntegers, operate, operateOn, opAdd, opSubtract, opMultiply, opDiv, opRem, opEqual, opUnequal, opLess, opAtMost}
 use Rattle.machine.specs.Guard.{operateSome, beforeSome}
-use Rattle.step.specs.Rows.{Stands, Plain, PlainAll, Sames}
+use Rattle.step.specs.Rows.{Stands, Plain, Sames}
 use Rattle.step.specs.declared.integer.Number.{Number}
 use Rattle.step.specs.declared.integer.Number.the-variants.{Value as aNumber, Stuck as noNumber}
 use Rattle.step.specs.declared.operand.Operand.{Operand}
@@ -29,7 +29,7 @@ use Rattle.step.specs.declared.operand.Operand.the-variants.{Short, Here
 use Rattle.step.specs.Answers.{number}
 use Rattle.term.proofs.TreeLaws.{words-one}
 use Rattle.step.proofs.RowInteger.{read}
-use Rattle.step.proofs.RowTerms.{arity-other, NodeAt, node-at, integer-at, plain-whole}
+use Rattle.step.proofs.RowTerms.{arity-other, node-at, integer-at, plain-whole}
 use Rattle.step.proofs.RowSame.{other-heads}
 use Rattle.step.proofs.RowWrite.{stands-within}
 use Rattle.term.proofs.WordLaws.{tag-word, n-word, k-word, word-parts}
