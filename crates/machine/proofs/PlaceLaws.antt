@@ -2,13 +2,13 @@
 use Prim.Native.Nat.{ℕ, zero, suc, _≤_}
 use mathlib.Core.Path.{_≡_, refl, _∙_}
 use mathlib.Core.Logic.{_⊎_, inl, inr}
-use mathlib.Core.Bool.{true, false, cond, _||_}
+use mathlib.Core.Bool.{true, false}
 use mathlib.Core.List.{List, [], _∷_}
 use native.Mathlib.Omega.{arith}
 use lib.Dec.{eqb}
 use lib.ListN.{length, replicate, length-append}
 use Rattle.lists.specs.Lists.{member}
-use Rattle.lists.proofs.Tests.{eqb-true, eqb-of, true-or-false, true-not-false, or-left, or-right, cond-true, choose-true, choose-false}
+use Rattle.lists.proofs.Tests.{eqb-true, eqb-of, eqb-apart, true-or-false, true-not-false, choose-true, choose-false}
 use Rattle.term.specs.Words.{tagCase, tagLet, tagReceive, tagClause}
 use Rattle.term.specs.Table.{table, rowOf, tagsAt, spotsBelow, spotExpression}
 use Rattle.term.specs.Tree.{Term, Terms, int, node, end, _then_, words, wordsOf, count}
@@ -23,11 +23,11 @@ use Rattle.machine.proofs.Right.{Right}
 
 -- the clauses of the definitions, by the tests that they make
 module _ (t : Term) (ts : Terms) (m : ℕ) where
-  working-past : (whole : Term) → isValue t ≡ true → workingIn (t then ts) (suc m) whole ≡ workingIn ts m whole
+  pub working-past : (whole : Term) → isValue t ≡ true → workingIn (t then ts) (suc m) whole ≡ workingIn ts m whole
   unfolding working
   working-past whole e = choose-true (workingIn ts m whole) (working t) e
 
-  working-into : (whole : Term) → isValue t ≡ false → workingIn (t then ts) (suc m) whole ≡ working t
+  pub working-into : (whole : Term) → isValue t ≡ false → workingIn (t then ts) (suc m) whole ≡ working t
   unfolding working
   working-into whole e = choose-false (workingIn ts m whole) (working t) e
 
@@ -35,11 +35,15 @@ module _ (t : Term) (ts : Terms) (m : ℕ) where
   unfolding ready
   ready-past e = choose-true (ready ts m) false e
 
-  replaced-past : (new : Term) → isValue t ≡ true → replacedIn (t then ts) (suc m) new ≡ t then replacedIn ts m new
+  pub ready-into : isValue t ≡ false → ready (t then ts) (suc m) ≡ false
+  unfolding ready
+  ready-into e = choose-false (ready ts m) false e
+
+  pub replaced-past : (new : Term) → isValue t ≡ true → replacedIn (t then ts) (suc m) new ≡ t then replacedIn ts m new
   unfolding replaced
   replaced-past new e = choose-true (t then replacedIn ts m new) (replaced t new then ts) e
 
-  replaced-into : (new : Term) → isValue t ≡ false → replacedIn (t then ts) (suc m) new ≡ replaced t new then ts
+  pub replaced-into : (new : Term) → isValue t ≡ false → replacedIn (t then ts) (suc m) new ≡ replaced t new then ts
   unfolding replaced
   replaced-into new e = choose-false (t then replacedIn ts m new) (replaced t new then ts) e
 
@@ -48,18 +52,26 @@ module _ (tag n k : ℕ) (ts : Terms) (new : Term) where
   unfolding replaced
   replaced-whole e = choose-true new (node tag n k (replacedIn ts (entered tag ts) new)) e
 
-  replaced-part : ready ts (entered tag ts) ≡ false → replaced (node tag n k ts) new ≡ node tag n k (replacedIn ts (entered tag ts) new)
+  pub replaced-part : ready ts (entered tag ts) ≡ false → replaced (node tag n k ts) new ≡ node tag n k (replacedIn ts (entered tag ts) new)
   unfolding replaced
   replaced-part e = choose-false new (node tag n k (replacedIn ts (entered tag ts) new)) e
 
 -- how many children are gone into
-entered-one : (tag : ℕ) (ts : Terms) → (eqb tag tagCase || eqb tag tagLet) ≡ true → entered tag ts ≡ 1
+pub entered-receive : (tag : ℕ) (ts : Terms) → tag ≡ tagReceive → entered tag ts ≡ 0
 unfolding entered
-entered-one tag ts e = cond-true 1 (cond (eqb tag tagReceive) 0 (count ts)) e
+entered-receive tag ts e = rw e
 
-entered-none : (tag : ℕ) (ts : Terms) → tag ≡ tagReceive → entered tag ts ≡ 0
+pub entered-case : (tag : ℕ) (ts : Terms) → tag ≡ tagCase → entered tag ts ≡ 1
 unfolding entered
-entered-none tag ts e = rw e refl
+entered-case tag ts e = rw e
+
+pub entered-let : (tag : ℕ) (ts : Terms) → tag ≡ tagLet → entered tag ts ≡ 1
+unfolding entered
+entered-let tag ts e = rw e
+
+pub entered-other : (tag : ℕ) (ts : Terms) → ¬ (tag ≡ tagCase) → ¬ (tag ≡ tagLet) → ¬ (tag ≡ tagReceive) → entered tag ts ≡ count ts
+unfolding entered
+entered-other tag ts a b d = rw (eqb-apart tag tagCase a, eqb-apart tag tagLet b, eqb-apart tag tagReceive d)
 
 -- the first m spots are those of expressions
 unfoldable Firsts : ℕ → List ℕ → Type 0
@@ -76,8 +88,8 @@ firsts-replicate (suc m) (suc n) = (refl, firsts-replicate m n)
 firsts-entered : (tag n : ℕ) (ts : Terms) → Below spotExpression tag → eqb tag tagClause ≡ false → Firsts (entered tag ts) (spotsUnder spotExpression tag n)
 unfolding Firsts spotsBelow rowOf table
 firsts-entered tag n ts (same a i) e = rw (under-expression tag n a) (firsts-replicate (entered tag ts) n)
-firsts-entered tag n ts (case i) e = rw (entered-one tag ts (or-left (eqb tag tagLet) (eqb-of tag tagCase i)), i) (refl, tt)
-firsts-entered tag n ts (receive i) e = rw (entered-none tag ts i) tt
+firsts-entered tag n ts (case i) e = rw (entered-case tag ts i, i) (refl, tt)
+firsts-entered tag n ts (receive i) e = rw (entered-receive tag ts i) tt
 firsts-entered tag n ts (clause i) e = true-not-false (eqb-of tag tagClause i) e
 
 -- no clause stands at an expression's spot
@@ -158,7 +170,7 @@ module _ (places : ℕ) (arities : List ℕ) where
       let f = firsts-entered tag n ts (below places spotExpression tag outside-expression (w .tag-there)) c in
       elim (true-or-false (eqb tag tagLet)) [
         | inl l ↦
-            let m = entered-one tag ts (or-right (eqb tag tagCase) l) in
+            let m = entered-let tag ts (eqb-true tag tagLet l) in
             let g : KeepsLet arities [] k ts = rw l at (r .keeps .1) in
             record {
               first = rw m (first-let ts k (spotsUnder spotExpression tag n) (rw m at f) (r .sits .1) g);

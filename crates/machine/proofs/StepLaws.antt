@@ -9,7 +9,7 @@ use native.Mathlib.Omega.{arith}
 use lib.Dec.{eqb}
 use lib.ListN.{replicate, length-replicate}
 use Rattle.lists.specs.Lists.{member, upTo}
-use Rattle.lists.proofs.Tests.{true-or-false, true-not-false, none-not-some, some-injective, and-of, choose-false}
+use Rattle.lists.proofs.Tests.{true-or-false, true-not-false, none-not-some, some-injective, and-of}
 use Rattle.term.specs.Words.{tagInteger, tagApply, tagCase, tagLet, tagReceive, tagSpawn}
 use Rattle.term.specs.Table.{alike, table, rowOf, tagsAt, kLimit, ownSpot, spotsBelow, spotExpression, spotValue}
 use Rattle.term.specs.Tree.{Term, Terms, node, end, _then_, count}
@@ -28,7 +28,7 @@ use Rattle.machine.proofs.SitLaws.{under-expression, is-value, are-valu
 use Rattle.machine.proofs.BindLaws.{none-or-some}
 use Rattle.machine.proofs.MatchLaws.{binds-nothing, binds-with, parameters-binds}
 use Rattle.machine.proofs.Right.{Right, ValueFrom, values-from}
-use Rattle.machine.proofs.PlaceLaws.{ready-past}
+use Rattle.machine.proofs.PlaceLaws.{ready-past, ready-into}
 use Rattle.machine.proofs.ClauseLaws.{Body, bound-body, first-body}
 use Rattle.machine.proofs.FitLaws.{sit-count}
 use Rattle.machine.proofs.ModuleLaws.{GoodModule, named}
@@ -38,7 +38,7 @@ pub ready-head : (t : Term) (ts : Terms) (m : ℕ) → ready (t then ts) (suc m)
 unfolding ready
 ready-head t ts m h = elim (true-or-false (isValue t)) [
   | inl e ↦ (e, sym (ready-past t ts m e) ∙ h)
-  | inr e ↦ true-not-false h (choose-false (ready ts m) false e)
+  | inr e ↦ true-not-false h (ready-into t ts m e)
 ]
 
 ready-values : (ts : Terms) → ready ts (count ts) ≡ true → areValues ts ≡ true

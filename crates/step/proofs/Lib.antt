@@ -12,6 +12,7 @@ pub mod RowNext
 pub mod RowStep
 pub mod RowSplit
 pub mod RowWork
+pub mod RowTags
 pub mod RowBecomes
 pub mod RowApply
 pub mod RowSeq

@@ -1,31 +1,30 @@
 -- Laws of apply: the places of a function's parameters, and its body in the module.
 use Prim.Native.Nat.{ℕ, zero, suc, _+_, _-_, _<_, _≤_}
-use mathlib.Core.Path.{_≡_, refl, sym, ap, ap₂, _∙_, subst}
-use mathlib.Core.Bool.{Bool, true, false}
-use mathlib.Core.Option.{Option, none, some}
-use mathlib.Core.List.{List, [], _∷_, _++_, append-assoc, append-nil}
+use mathlib.Core.Path.{_≡_, refl, sym, ap, _∙_, subst}
+use mathlib.Core.Option.{some}
+use mathlib.Core.List.{List}
 use native.Mathlib.Omega.{arith}
 use native.Mathlib.Numerals.{add-one}
 use lib.ListN.{length, drop, getD, set, replicate}
 use Rattle.lists.proofs.Tests.{none-not-some, some-injective}
-use Rattle.term.specs.Words.{word, tagOf, nOf, kOf, tagApply}
+use Rattle.term.specs.Words.{nOf, kOf, tagApply}
 use Rattle.term.specs.Rows.{passed}
 use Rattle.term.specs.Places.{startFrom}
-use Rattle.term.specs.Tree.{Term, Terms, int, node, end, _then_, words, wordsOf, count, rest}
+use Rattle.term.specs.Tree.{Term, Terms, node, end, _then_, wordsOf, count, rest}
 use Rattle.term.specs.Module.{functionOf}
 use Rattle.term.proofs.PlaceLaws.{function-stands}
-use Rattle.machine.specs.Match.{Bindings, unbound, with}
+use Rattle.machine.specs.Match.{unbound}
 use Rattle.machine.specs.Bind.{bind, parameters}
-use Rattle.step.specs.Rows.{Stands, Plain, PlainAll, Bound, Wrote}
-use Rattle.step.specs.Nexts.{rowWith, Puts, PutsCopy}
-use Rattle.step.specs.Steps.{fittedOf, WroteNext, NextIs, ParametersAt, ModuleIs, ApplyNext}
+use Rattle.step.specs.Rows.{Stands, Plain, PlainAll, Bound}
+use Rattle.step.specs.Nexts.{Puts, PutsCopy}
+use Rattle.step.specs.Steps.{fittedOf, ParametersAt, ModuleIs, ApplyNext}
 use Rattle.step.specs.declared.step.Next.{Next}
-use Rattle.step.specs.declared.step.Next.the-variants.{Nothing, TooLarge, Row}
+use Rattle.step.specs.declared.step.Next.the-variants.{Nothing}
 use Rattle.step.proofs.RowTerms.{some-words, plain-all-whole}
 use Rattle.step.proofs.RowMatch.{bound-more}
 use Rattle.step.proofs.RowWrite.{stands-within}
 use Rattle.step.proofs.RowClause.{nothing-bound}
-use Rattle.step.proofs.RowStep.{ChildrenAt, children-at, first-stands, others-plain, others-on, wrote-next, next-some}
+use Rattle.step.proofs.RowStep.{children-at, first-stands, others-plain, others-on, wrote-next, next-some}
 
 module _ (c : List ℕ) (at m x : ℕ) (env : List ℕ) where
   pub parameters-none : m ≡ 0 → ParametersAt c at m x env env

@@ -1,30 +1,29 @@
 -- Laws of clauses in rows: the steps of `takes` and `choose`.
-use Prim.Native.Nat.{ℕ, zero, suc, _+_, _-_, _<_, _≤_}
-use mathlib.Core.Path.{_≡_, refl, sym, ap, ap₂, _∙_, subst}
+use Prim.Native.Nat.{ℕ, zero, suc, _+_, _-_, _≤_}
+use mathlib.Core.Path.{_≡_, refl, sym, ap, _∙_, subst}
 use mathlib.Core.Bool.{Bool, true, false, cond, not, _&&_}
 use mathlib.Core.Option.{Option, none, some}
-use mathlib.Core.List.{List, [], _∷_, _++_, append-assoc, append-nil}
+use mathlib.Core.List.{List, _++_, append-assoc, append-nil}
 use native.Mathlib.Omega.{arith}
 use native.Mathlib.Decide.{ℕ-discrete}
 use lib.Dec.{eqb, leb}
 use lib.ListN.{length, drop, getD, replicate}
 use Rattle.lists.proofs.Tests.{eqb-of, eqb-apart, cond-true, cond-false, none-not-some, some-injective, true-not-false, not-true, not-false, and-left, and-right}
-use Rattle.term.specs.Words.{word, tagOf, nOf, kOf, tagVariable, tagAtom, tagTuple}
-use Rattle.term.specs.Table.{arity}
+use Rattle.term.specs.Words.{tagVariable, tagAtom, tagTuple}
 use Rattle.term.specs.Rows.{passed}
-use Rattle.term.specs.Tree.{Term, Terms, int, node, end, _then_, words, wordsOf, count, Head}
+use Rattle.term.specs.Tree.{Term, Terms, int, node, end, _then_, words, wordsOf, count}
 use Rattle.term.specs.Value.{isValue, areValues}
-use Rattle.term.proofs.TreeLaws.{words-one, _andAll_, all-end}
+use Rattle.term.proofs.TreeLaws.{all-end}
 use Rattle.machine.specs.Match.{Bindings, unbound, with, childrenOf, isInteger, match, matchAll}
 use Rattle.machine.specs.Bind.{bind}
 use Rattle.machine.specs.Guard.{guardHolds}
 use Rattle.machine.specs.Clauses.{ifHolds, partsTake, clauseTakes, firstClause}
 use Rattle.step.specs.Rows.{Stands, Plain, PlainAll, Entry, Bound, Matched, Matches}
-use Rattle.step.specs.Guards.{OfValues, IsGuard, HoldsAt}
-use Rattle.step.specs.Clausal.{ClauseIs, AreClauses, isSome, TakesAt, Takes, ChosenIs, ChoosesAt}
+use Rattle.step.specs.Guards.{OfValues, HoldsAt}
+use Rattle.step.specs.Clausal.{ClauseIs, AreClauses, isSome, TakesAt, ChosenIs, ChoosesAt}
 use Rattle.step.specs.declared.clause.Chosen.{Chosen}
 use Rattle.step.specs.declared.clause.Chosen.the-variants.{Clause, Nothing}
-use Rattle.step.proofs.RowTerms.{NodeAt, node-at, integer-at, some-words, one-skip, past-term, plain-whole}
+use Rattle.step.proofs.RowTerms.{node-at, some-words, one-skip, past-term, plain-whole}
 use Rattle.step.proofs.RowMatch.{match-then, match-variable, match-node, onward, below}
 use Rattle.step.proofs.RowGuard.{third}
 use Rattle.step.proofs.RowOperand.{as-row, one-term}

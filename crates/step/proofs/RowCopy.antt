@@ -1,17 +1,17 @@
 -- Laws of copying with values in place of variables: the steps of `copy`.
 use Prim.Native.Nat.{ℕ, zero, suc, _+_, _-_, _<_, _≤_}
 use mathlib.Core.Path.{_≡_, refl, sym, ap, ap₂, _∙_, subst}
-use mathlib.Core.Bool.{Bool, true, false, cond}
+use mathlib.Core.Bool.{Bool, true, false}
 use mathlib.Core.Option.{Option, none, some}
-use mathlib.Core.List.{List, [], _∷_, _++_, append-assoc}
+use mathlib.Core.List.{List, [], _∷_, _++_}
 use native.Mathlib.Omega.{arith}
 use native.Mathlib.Decide.{ℕ-discrete}
 use lib.Dec.{eqb}
 use lib.ListN.{length, drop, getD}
 use Rattle.lists.proofs.Tests.{eqb-of, eqb-apart, true-not-false}
-use Rattle.term.specs.Words.{word, tagOf, nOf, kOf, integerWord, tagInteger, tagVariable, tagCons}
+use Rattle.term.specs.Words.{word, tagOf, nOf, integerWord, tagInteger, tagVariable, tagCons}
 use Rattle.term.specs.Table.{arity}
-use Rattle.term.specs.Tree.{Term, Terms, int, node, end, _then_, words, wordsOf, count, Head, Whole, WholeAll}
+use Rattle.term.specs.Tree.{Term, Terms, int, node, end, _then_, words, wordsOf, count, Head}
 use Rattle.term.proofs.WordLaws.{tag-word, k-word}
 use Rattle.term.proofs.TreeLaws.{_andAll_, words-all}
 use Rattle.machine.specs.Match.{Bindings}

@@ -1,32 +1,31 @@
 -- Laws of guards in rows: the steps of `guard`.
-use Prim.Native.Nat.{ℕ, zero, suc, _+_, _-_, _<_, _≤_}
+use Prim.Native.Nat.{ℕ, suc, _+_, _-_, _≤_}
 use mathlib.Core.Path.{_≡_, refl, sym, ap, ap₂, _∙_, subst}
-use mathlib.Core.Logic.{_⊎_, inl, inr}
-use mathlib.Core.Bool.{Bool, true, false, cond, _&&_}
+use mathlib.Core.Logic.{inl, inr}
+use mathlib.Core.Bool.{Bool, true, false, _&&_}
 use mathlib.Core.Option.{Option, none, some}
-use mathlib.Core.List.{List, [], _∷_, _++_, append-assoc, append-nil}
+use mathlib.Core.List.{List, _++_, append-assoc, append-nil}
 use native.Mathlib.Omega.{arith}
 use native.Mathlib.Decide.{ℕ-discrete}
 use lib.Dec.{eqb, leb}
 use lib.ListN.{length, drop, getD, length-append, List·getD-eq-default}
-use Rattle.lists.proofs.Tests.{eqb-of, eqb-apart, and-left, and-right, leb-true, true-not-false, true-or-false}
-use Rattle.term.specs.Words.{word, tagOf, nOf, kOf, integerWord, tagInteger, tagCons, tagTuple, tagAtom, tagCall, tagVariable}
-use Rattle.term.specs.Table.{arity}
+use Rattle.lists.proofs.Tests.{eqb-of, eqb-apart, and-left, and-right, leb-true, true-not-false}
+use Rattle.term.specs.Words.{tagOf, kOf, tagTuple, tagAtom, tagCall, tagVariable}
 use Rattle.term.specs.Rows.{passed}
-use Rattle.term.specs.Tree.{Term, Terms, int, node, end, _then_, words, wordsOf, count, Head}
+use Rattle.term.specs.Tree.{Term, Terms, int, node, end, _then_, words, wordsOf, count}
 use Rattle.term.specs.Value.{isValue, areValues}
-use Rattle.term.proofs.TreeLaws.{words-one, _andAll_, all-end}
+use Rattle.term.proofs.TreeLaws.{all-end}
 use Rattle.machine.specs.Value.{sameTerm, truth}
 use Rattle.machine.specs.Match.{Bindings}
 use Rattle.machine.specs.Bind.{bind, bindAll}
-use Rattle.machine.specs.Guard.{operateSome, beforeSome, guardGives, guardsGive, guardHolds}
-use Rattle.step.specs.Rows.{Stands, Plain, PlainAll, Entry, Bound}
+use Rattle.machine.specs.Guard.{operateSome, guardGives, guardsGive, guardHolds}
+use Rattle.step.specs.Rows.{Plain, PlainAll, Entry, Bound}
 use Rattle.step.specs.Operands.{shortTerm, isLong, ShortIs, LongIs, Gives, operateBoth, Operates, StandsHere, StandsThere}
 use Rattle.step.specs.Guards.{OfValues, IsGuard, AreGuards, Looked, GuardIs, GuardAt, HoldsAt}
 use Rattle.step.specs.declared.operand.Operand.{Operand}
 use Rattle.step.specs.declared.operand.Operand.the-variants.{Short, Here, There, Stuck}
 use Rattle.step.specs.declared.guard.Given.{Given}
-use Rattle.step.proofs.RowTerms.{NodeAt, node-at, integer-at, one-skip, past-term, plain-whole}
+use Rattle.step.proofs.RowTerms.{node-at, integer-at, one-skip, past-term, plain-whole}
 use Rattle.step.proofs.RowWrite.{stands-within}
 use Rattle.step.proofs.RowCopy.{bind-other, bind-free, bind-bound, entry-value}
 use Rattle.step.proofs.RowOperand.{as-row, one-term, head-of, no-children, short-differ, same-self, long-short, gives-short, gives-here, gives-there, gives-stuck}

@@ -2,17 +2,17 @@
 use mathlib.Core.Path.{_≡_, refl, sym, ap, _∙_, subst}
 use mathlib.Core.Bool.{Bool, true, false, cond, _&&_}
 use mathlib.Core.Option.{Option, none, some}
-use Prim.Native.Nat.{ℕ, zero, suc, _+_, _*_, _-_, _^_, _≤_, _<_, _/_, _%_}
-use native.Mathlib.Nat.{mul-le-mul, div-le-self, div-lt-self, mod-one, div-one}
+use Prim.Native.Nat.{ℕ, zero, suc, _*_, _-_, _^_, _≤_, _<_, _/_}
+use native.Mathlib.Nat.{mul-le-mul, div-le-self, div-lt-self, mod-one}
 use native.Mathlib.Omega.{arith}
-use lib.Dec.{T, ltb, leb, eqb}
+use lib.Dec.{ltb, leb}
 use lib.IntN.{ℤ, pos, negsuc, negℤ, subℕ, _+ℤ_, _-ℤ_, _*ℤ_}
 use lib.Signed.{mag, ltZ, leZ, quotZ, remZ, mag-rem}
 use mir.Syntax.{Width, w32, w64}
 use mir.Val.{SFits, Fits, ofZ, toZ, sel}
 use mir.Facts.{sfits-widen}
-use mir.ValLaws.{toZ-ofZ, ofZ-toZ, toZ-pos, toZ-neg, toZ-fits, sfits-le}
-use borrow.Author.Tests.{ltb-true, ltb-false, leb-true, leb-false, le-leb, lt-leb, lt-ltb, le-ltb, ne-eqb}
+use mir.ValLaws.{toZ-ofZ, ofZ-toZ, toZ-pos, toZ-neg, sfits-le}
+use borrow.Author.Tests.{ltb-true, leb-true, le-leb, lt-ltb, le-ltb, ne-eqb}
 use Rattle.term.specs.Tree.{Term, int}
 use Rattle.machine.specs.Operator.{signed, unsigned, inRange, ranged, isZero}
 

@@ -1,25 +1,24 @@
 -- Laws of matching in rows: the steps of `matches`.
-use Prim.Native.Nat.{ℕ, zero, suc, _+_, _-_, _<_, _≤_}
+use Prim.Native.Nat.{ℕ, _+_, _-_, _<_, _≤_}
 use mathlib.Core.Path.{_≡_, refl, sym, ap, ap₂, _∙_, subst}
-use mathlib.Core.Logic.{_⊎_, inl, inr}
 use mathlib.Core.Bool.{Bool, true, false, cond, _&&_}
 use mathlib.Core.Option.{Option, none, some}
-use mathlib.Core.List.{List, [], _∷_, _++_, append-assoc}
+use mathlib.Core.List.{List, _++_, append-assoc}
 use native.Mathlib.Omega.{arith}
 use native.Mathlib.Decide.{ℕ-discrete}
 use native.Mathlib.Numerals.{add-one}
 use lib.Dec.{eqb}
 use lib.ListN.{length, drop, getD, set, length-set}
 use lib.Seq.{getD-set-same, getD-set-other}
-use Rattle.lists.proofs.Tests.{eqb-of, eqb-apart, eqb-true, eqb-false, cond-true, cond-false, true-or-false, true-not-false}
+use Rattle.lists.proofs.Tests.{eqb-of, eqb-apart, cond-true, cond-false, true-not-false}
 use Rattle.term.specs.Words.{word, tagOf, nOf, kOf, tagInteger, tagVariable}
 use Rattle.term.specs.Table.{arity}
 use Rattle.term.specs.Rows.{passed}
 use Rattle.term.specs.Tree.{Term, Terms, int, node, end, _then_, words, wordsOf, count, Head}
-use Rattle.term.proofs.TreeLaws.{_andAll_, words-all}
+use Rattle.term.proofs.TreeLaws.{_andAll_}
 use Rattle.machine.specs.Match.{Bindings, with, childrenOf, isInteger, match, matchAll}
 use Rattle.step.specs.Rows.{Stands, Plain, PlainAll, Entry, Bound, Matched, Matches}
-use Rattle.step.proofs.RowTerms.{arity-other, NodeAt, node-at, integer-at, not-integer-at, some-words, past-term, one-skip, plain-whole}
+use Rattle.step.proofs.RowTerms.{arity-other, node-at, integer-at, not-integer-at, some-words, past-term, one-skip, plain-whole}
 
 -- ---- match, by what it looks at
 abbrev pub onward : Option Bindings → Terms → Terms → Option Bindings

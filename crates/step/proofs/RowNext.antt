@@ -1,16 +1,15 @@
 -- Laws of the next control: a term of a row exchanged for other words.
-use Prim.Native.Nat.{ℕ, zero, suc, _+_, _-_, _<_, _≤_}
-use mathlib.Core.Path.{_≡_, refl, sym, ap, ap₂, _∙_, subst}
-use mathlib.Core.List.{List, [], _∷_, _++_, append-assoc, append-nil}
+use Prim.Native.Nat.{ℕ, _+_, _-_}
+use mathlib.Core.Path.{_≡_, refl, ap, _∙_, subst}
+use mathlib.Core.List.{List, [], _∷_, _++_}
 use native.Mathlib.Omega.{arith}
-use lib.ListN.{length, drop, take, length-append, length-drop}
+use lib.ListN.{length, drop, take, length-drop}
 use lib.Seq.{take-all}
 use Rattle.term.specs.Rows.{passed}
-use Rattle.term.specs.Tree.{Term, Terms, int, node, end, _then_, words, wordsOf, count}
+use Rattle.term.specs.Tree.{end, _then_, words, count}
 use Rattle.term.proofs.TreeLaws.{words-one}
-use Rattle.machine.specs.Match.{Bindings}
 use Rattle.machine.specs.Bind.{bind, bindAll}
-use Rattle.step.specs.Rows.{Stands, PlainAll, Bound, Wrote, Copies, CopiedTerms}
+use Rattle.step.specs.Rows.{PlainAll, Wrote, Copies, CopiedTerms}
 use Rattle.step.specs.Nexts.{WritesAfter, rowWith, Puts, PutsCopy}
 use Rattle.step.proofs.RowTerms.{one-skip, plain-whole}
 use Rattle.step.proofs.RowWrite.{wrote-then}

@@ -1,10 +1,10 @@
 -- Laws of operands: what they give, when two are the same value, and the operators on them.
-use Prim.Native.Nat.{ℕ, zero, suc, _+_, _-_, _<_, _≤_}
+use Prim.Native.Nat.{ℕ, _+_, _-_, _<_, _≤_}
 use mathlib.Core.Path.{_≡_, refl, sym, ap, ap₂, _∙_, subst}
 use mathlib.Core.Logic.{_⊎_, inl, inr}
 use mathlib.Core.Bool.{Bool, true, false, cond, not, _&&_, _||_}
 use mathlib.Core.Option.{Option, none, some}
-use mathlib.Core.List.{List, [], _∷_, _++_, append-nil}
+use mathlib.Core.List.{List, _++_}
 use native.Mathlib.Omega.{arith}
 use native.Mathlib.Decide.{ℕ-discrete}
 use lib.Dec.{eqb, leb}
@@ -14,14 +14,14 @@ use mir.Syntax.{w32}
 use mir.Val.{SFits}
 use mir.ValLaws.{toZ-ofZ}
 use lib.ListN.{length, drop, getD}
-use Rattle.lists.proofs.Tests.{eqb-of, eqb-same, eqb-apart, eqb-true, leb-true, or-false, true-not-false, none-not-some, some-injective}
+use Rattle.lists.proofs.Tests.{eqb-of, eqb-same, eqb-apart, leb-true, or-false, true-not-false}
 use Rattle.term.specs.Words.{word, tagOf, nOf, kOf, integerWord, tagInteger, tagCons, tagTuple, tagAtom}
-use Rattle.term.specs.Tree.{Term, Terms, int, node, end, _then_, words, wordsOf, count, Head, Whole, WholeAll}
+use Rattle.term.specs.Tree.{Term, Terms, int, node, end, _then_, words, wordsOf, count, Head, WholeAll}
 use Rattle.term.specs.Value.{isValue, areValues}
 use Rattle.machine.specs.Value.{sameTerm, sameTerms, truth}
 use Rattle.machine.specs.Operator.{signed, unsigned, ranged, divided, onIntegers, ifIntegers, operate, operateOn, opAdd, opSubtract, opMultiply, opDiv, opRem, opEqual, opUnequal, opLess, opAtMost}
 use Rattle.machine.specs.Guard.{operateSome, beforeSome}
-use Rattle.step.specs.Rows.{Stands, Plain, PlainAll, Sames}
+use Rattle.step.specs.Rows.{Stands, Plain, Sames}
 use Rattle.step.specs.declared.integer.Number.{Number}
 use Rattle.step.specs.declared.integer.Number.the-variants.{Value as aNumber, Stuck as noNumber}
 use Rattle.step.specs.declared.operand.Operand.{Operand}
@@ -29,7 +29,7 @@ use Rattle.step.specs.declared.operand.Operand.the-variants.{Short, Here
 use Rattle.step.specs.Answers.{number}
 use Rattle.term.proofs.TreeLaws.{words-one}
 use Rattle.step.proofs.RowInteger.{read}
-use Rattle.step.proofs.RowTerms.{arity-other, NodeAt, node-at, integer-at, plain-whole}
+use Rattle.step.proofs.RowTerms.{arity-other, node-at, integer-at, plain-whole}
 use Rattle.step.proofs.RowSame.{other-heads}
 use Rattle.step.proofs.RowWrite.{stands-within}
 use Rattle.term.proofs.WordLaws.{tag-word, n-word, k-word, word-parts}
@@ -37,25 +37,29 @@ use Rattle.step.specs.Operands.{shortTerm, isLong, ShortIs, LongIs, Give
 
 -- ---- onIntegers, by its operator
 module _ (op : ℕ) (x y : ℤ) (fx : SFits w32 x) (fy : SFits w32 y) where
+  computes : (f : ℤ → ℤ → Option Term) → onIntegers op x y ≡ f x y → (r : Number) → number r ≡ f (read w32 x) (read w32 y) → Computes op x y r
+  unfolding Computes
+  computes f e r h a b = h ∙ ap₂ f (toZ-ofZ w32 x fx) (toZ-ofZ w32 y fy) ∙ sym e
+
   pub computes-add : op ≡ opAdd → (r : Number) → number r ≡ ranged (read w32 x +ℤ read w32 y) → Computes op x y r
-  unfolding Computes onIntegers
-  computes-add e r h a b = h ∙ (λ i. ranged (toZ-ofZ w32 x fx i +ℤ toZ-ofZ w32 y fy i)) ∙ rw e
+  unfolding onIntegers
+  computes-add e r h = computes (λ u v. ranged (u +ℤ v)) (rw e) r h
 
   pub computes-subtract : op ≡ opSubtract → (r : Number) → number r ≡ ranged (read w32 x -ℤ read w32 y) → Computes op x y r
-  unfolding Computes onIntegers
-  computes-subtract e r h a b = h ∙ (λ i. ranged (toZ-ofZ w32 x fx i -ℤ toZ-ofZ w32 y fy i)) ∙ rw e
+  unfolding onIntegers
+  computes-subtract e r h = computes (λ u v. ranged (u -ℤ v)) (rw e) r h
 
   pub computes-multiply : op ≡ opMultiply → (r : Number) → number r ≡ ranged (read w32 x *ℤ read w32 y) → Computes op x y r
-  unfolding Computes onIntegers
-  computes-multiply e r h a b = h ∙ (λ i. ranged (toZ-ofZ w32 x fx i *ℤ toZ-ofZ w32 y fy i)) ∙ rw e
+  unfolding onIntegers
+  computes-multiply e r h = computes (λ u v. ranged (u *ℤ v)) (rw e) r h
 
   pub computes-div : op ≡ opDiv → (r : Number) → number r ≡ divided (read w32 y) (quotZ (read w32 x) (read w32 y)) → Computes op x y r
-  unfolding Computes onIntegers
-  computes-div e r h a b = h ∙ (λ i. divided (toZ-ofZ w32 y fy i) (quotZ (toZ-ofZ w32 x fx i) (toZ-ofZ w32 y fy i))) ∙ rw e
+  unfolding onIntegers
+  computes-div e r h = computes (λ u v. divided v (quotZ u v)) (rw e) r h
 
   pub computes-rem : op ≡ opRem → (r : Number) → number r ≡ divided (read w32 y) (remZ (read w32 x) (read w32 y)) → Computes op x y r
-  unfolding Computes onIntegers
-  computes-rem e r h a b = h ∙ (λ i. divided (toZ-ofZ w32 y fy i) (remZ (toZ-ofZ w32 x fx i) (toZ-ofZ w32 y fy i))) ∙ rw e
+  unfolding onIntegers
+  computes-rem e r h = computes (λ u v. divided v (remZ u v)) (rw e) r h
 
 module _ (op : ℕ) (x y : ℤ) where
   pub computes-none : ¬ (op ≡ opAdd) → ¬ (op ≡ opSubtract) → ¬ (op ≡ opMultiply) → ¬ (op ≡ opDiv) → ¬ (op ≡ opRem) → Computes op x y noNumber
@@ -103,15 +107,16 @@ pub gives-same : (r : Operand) (o o′ : Option Term) → GivesAnywhere r o → 
 gives-same r o o′ g e = subst (GivesAnywhere r) e g
 
 -- on integers that were read from words
-pub less-gives : (op a b : ℕ) (x y : ℤ) → SFits w32 x → SFits w32 y → x ≡ signed a → y ≡ signed b → op ≡ opLess → (r : Operand) → GivesAnywhere r (some (truth (ltZ (read w32 x) (read w32 y))))
-    → GivesAnywhere r (onIntegers op (signed a) (signed b))
-less-gives op a b x y fx fy ex ey e r g =
-    gives-same r _ _ g (ap₂ (λ (u v : ℤ). some (truth (ltZ u v))) (toZ-ofZ w32 x fx ∙ ex) (toZ-ofZ w32 y fy ∙ ey) ∙ sym (on-less op (signed a) (signed b) e))
+module _ (op a b : ℕ) (x y : ℤ) (fx : SFits w32 x) (fy : SFits w32 y) (ex : x ≡ signed a) (ey : y ≡ signed b) where
+  compared : (test : ℤ → ℤ → Bool) → onIntegers op (signed a) (signed b) ≡ some (truth (test (signed a) (signed b))) → (r : Operand) → GivesAnywhere r (some (truth (test (read w32 x) (read w32 y))))
+      → GivesAnywhere r (onIntegers op (signed a) (signed b))
+  compared test e r g = gives-same r _ _ g (ap₂ (λ (u v : ℤ). some (truth (test u v))) (toZ-ofZ w32 x fx ∙ ex) (toZ-ofZ w32 y fy ∙ ey) ∙ sym e)
 
-pub at-most-gives : (op a b : ℕ) (x y : ℤ) → SFits w32 x → SFits w32 y → x ≡ signed a → y ≡ signed b → op ≡ opAtMost → (r : Operand) → GivesAnywhere r (some (truth (leZ (read w32 x) (read w32 y))))
-    → GivesAnywhere r (onIntegers op (signed a) (signed b))
-at-most-gives op a b x y fx fy ex ey e r g =
-    gives-same r _ _ g (ap₂ (λ (u v : ℤ). some (truth (leZ u v))) (toZ-ofZ w32 x fx ∙ ex) (toZ-ofZ w32 y fy ∙ ey) ∙ sym (on-at-most op (signed a) (signed b) e))
+  pub less-gives : op ≡ opLess → (r : Operand) → GivesAnywhere r (some (truth (ltZ (read w32 x) (read w32 y)))) → GivesAnywhere r (onIntegers op (signed a) (signed b))
+  less-gives e r g = compared ltZ (on-less op (signed a) (signed b) e) r g
+
+  pub at-most-gives : op ≡ opAtMost → (r : Operand) → GivesAnywhere r (some (truth (leZ (read w32 x) (read w32 y)))) → GivesAnywhere r (onIntegers op (signed a) (signed b))
+  at-most-gives e r g = compared leZ (on-at-most op (signed a) (signed b) e) r g
 
 pub computed-gives : (op a b : ℕ) (x y : ℤ) → SFits w32 x → SFits w32 y → x ≡ signed a → y ≡ signed b → ¬ (op ≡ opLess) → ¬ (op ≡ opAtMost) → (z : Number) → Computes op (read w32 x) (read w32 y) z
     → (r : Operand) → GivesAnywhere r (number z) → GivesAnywhere r (onIntegers op (signed a) (signed b))

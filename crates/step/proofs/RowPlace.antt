@@ -2,38 +2,23 @@
 use Prim.Native.Nat.{ℕ, zero, suc, _+_, _-_, _<_, _≤_}
 use mathlib.Core.Path.{_≡_, refl, sym, ap, ap₂, _∙_}
 use mathlib.Core.Logic.{_⊎_, inl, inr}
-use mathlib.Core.Bool.{Bool, true, false, cond, _&&_, _||_}
-use mathlib.Core.List.{List, [], _∷_, _++_, append-assoc}
+use mathlib.Core.Bool.{Bool, true, false, _&&_}
+use mathlib.Core.List.{List, _++_, append-assoc}
 use native.Mathlib.Omega.{arith}
-use lib.Dec.{eqb, leb}
+use lib.Dec.{leb}
 use lib.ListN.{length, drop, getD, length-append}
-use Rattle.lists.proofs.Tests.{true-or-false, true-not-false, eqb-of, eqb-apart, leb-true, leb-of, leb-over, and-left, and-right, or-false, cond-true, cond-false}
-use Rattle.term.specs.Words.{word, tagOf, nOf, kOf, tagAtom, tagTuple, tagInteger, tagCase, tagLet, tagReceive, tagFunction}
+use Rattle.lists.proofs.Tests.{true-or-false, true-not-false, leb-true, leb-of, leb-over, and-left, and-right, cond-true, cond-false}
+use Rattle.term.specs.Words.{tagOf, nOf, tagAtom, tagTuple, tagInteger, tagCase, tagLet, tagReceive}
 use Rattle.term.specs.Table.{arity}
 use Rattle.term.specs.Tree.{Term, Terms, int, node, end, _then_, words, wordsOf, count, Head, Whole, WholeAll}
 use Rattle.term.proofs.TreeLaws.{_andAll_, words-all, count-all, whole-all}
 use Rattle.term.specs.Value.{isValue, areValues}
 use Rattle.machine.specs.Place.{entered}
+use Rattle.machine.proofs.PlaceLaws.{entered-receive, entered-case, entered-let, entered-other}
 use Rattle.step.specs.Rows.{placeOf, placeAmong, EntersOf, Finds}
-use Rattle.step.proofs.RowTerms.{arity-case, arity-other, NodeAt, node-at, integer-at, not-integer-at, some-words}
+use Rattle.step.proofs.RowTerms.{arity-case, arity-other, node-at, integer-at, not-integer-at, some-words}
 
 -- ---- how many children are gone into
-pub entered-receive : (tag : ℕ) (ts : Terms) → tag ≡ tagReceive → entered tag ts ≡ 0
-unfolding entered
-entered-receive tag ts e = rw e
-
-pub entered-case : (tag : ℕ) (ts : Terms) → tag ≡ tagCase → entered tag ts ≡ 1
-unfolding entered
-entered-case tag ts e = rw e
-
-pub entered-let : (tag : ℕ) (ts : Terms) → tag ≡ tagLet → entered tag ts ≡ 1
-unfolding entered
-entered-let tag ts e = rw e
-
-pub entered-other : (tag : ℕ) (ts : Terms) → ¬ (tag ≡ tagCase) → ¬ (tag ≡ tagLet) → ¬ (tag ≡ tagReceive) → entered tag ts ≡ count ts
-unfolding entered
-entered-other tag ts a b d = rw (eqb-apart tag tagCase a, eqb-apart tag tagLet b, eqb-apart tag tagReceive d)
-
 no-terms : (ts : Terms) (m here at : ℕ) → count ts ≡ 0 → placeAmong ts m here at ≡ here
 unfolding placeAmong count
 no-terms end m here at z = refl

@@ -1,20 +1,20 @@
 -- Laws of equal terms in rows: the steps of `same`.
-use Prim.Native.Nat.{ℕ, zero, suc, _+_, _-_, _<_, _≤_}
+use Prim.Native.Nat.{ℕ, _+_, _-_, _<_, _≤_}
 use mathlib.Core.Path.{_≡_, refl, sym, ap, ap₂, _∙_}
 use mathlib.Core.Bool.{Bool, true, false, _&&_}
-use mathlib.Core.List.{List, [], _∷_, _++_}
+use mathlib.Core.List.{List}
 use native.Mathlib.Omega.{arith}
 use native.Mathlib.Decide.{ℕ-discrete}
 use lib.Dec.{eqb}
-use lib.ListN.{length, drop, getD}
+use lib.ListN.{length, getD}
 use Rattle.lists.proofs.Tests.{eqb-of, eqb-apart, true-not-false}
 use Rattle.term.specs.Words.{word, tagOf, nOf, kOf, tagInteger}
 use Rattle.term.specs.Table.{arity}
-use Rattle.term.specs.Tree.{Term, Terms, int, node, end, _then_, words, wordsOf, count, Head, Whole, WholeAll}
+use Rattle.term.specs.Tree.{Terms, int, node, end, _then_, count, Whole, WholeAll}
 use Rattle.term.proofs.TreeLaws.{_andAll_, whole-all}
 use Rattle.machine.specs.Value.{sameTerm, sameTerms}
 use Rattle.step.specs.Rows.{Sames}
-use Rattle.step.proofs.RowTerms.{NodeAt, node-at, integer-at, not-integer-at, some-words}
+use Rattle.step.proofs.RowTerms.{node-at, integer-at, not-integer-at, some-words}
 
 and-and : (a b c : Bool) → ((a && b) && c) ≡ (a && (b && c))
 and-and true b c = refl

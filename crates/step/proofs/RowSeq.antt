@@ -1,40 +1,43 @@
 -- Laws of a seq step of a whole control.
-use Prim.Native.Nat.{ℕ, zero, suc, _+_, _-_, _<_, _≤_}
+use Prim.Native.Nat.{ℕ, _≤_}
 use mathlib.Core.Path.{_≡_, refl, sym, ap, ap₂, _∙_, subst}
 use mathlib.Core.Logic.{_⊎_, inl, inr}
 use mathlib.Core.Bool.{Bool, true, false, cond}
 use mathlib.Core.Option.{Option, none, some}
-use mathlib.Core.List.{List, [], _∷_, _++_}
+use mathlib.Core.List.{List}
 use native.Mathlib.Omega.{arith}
 use lib.Dec.{eqb}
-use lib.ListN.{length, drop, getD}
-use Rattle.lists.proofs.Tests.{true-or-false, true-not-false, cond-true, cond-false, eqb-apart}
+use lib.ListN.{length, getD}
+use Rattle.lists.proofs.Tests.{true-or-false, cond-false, eqb-apart}
 use Rattle.term.specs.Words.{tagOf, tagPid, tagCall, tagApply, tagCase, tagLet, tagReceive, tagSpawn, tagSend, tagSelf, tagCheck}
 use Rattle.term.specs.Tree.{Term, Terms, int, node, end, _then_, words}
-use Rattle.term.specs.Read.{termOf, termsOf}
+use Rattle.term.specs.Read.{termsOf}
 use Rattle.term.specs.Value.{isValue}
-use Rattle.term.specs.Module.{bodyOf, functionOf}
-use Rattle.machine.specs.Operator.{operate, operateOn}
+use Rattle.term.specs.Module.{functionOf}
+use Rattle.machine.specs.Operator.{operate}
 use Rattle.machine.specs.Match.{unbound, with}
 use Rattle.machine.specs.Bind.{bind, parameters}
 use Rattle.machine.specs.Clauses.{firstClause}
 use Rattle.machine.specs.Place.{working}
-use Rattle.machine.specs.Work.{Work, finished, stuck, toSeq, toSend, toReceive, toSpawn, toSelf, toCheck, next, seqOr, bodyWith, caseGives, letGives, sendTo, sendWork, workAt, workOf, work}
+use Rattle.machine.specs.Work.{Work, finished, stuck, toSend, next, nextSome, seqOr, letGives, sendTo, sendWork, workAt, work}
 use Rattle.step.specs.Rows.{Stands, Finds}
 use Rattle.step.specs.Nexts.{rowWith}
-use Rattle.step.specs.Steps.{WroteNext, NextIs, CallNext, CaseNext, LetNext, ModuleIs, ApplyNext}
-use Rattle.step.specs.Controls.{Pair, Applied, Redex, ControlIs}
-use Rattle.step.specs.Becomes.{SeqIs, SeqNext}
+use Rattle.step.specs.Steps.{NextIs, CallNext, CaseNext, LetNext, ApplyNext}
+use Rattle.step.specs.Controls.{Pair, Redex, ControlIs}
+use Rattle.step.specs.Becomes.{RowIs, SeqIs, SeqNext}
 use Rattle.step.specs.declared.step.Next.{Next}
-use Rattle.step.specs.declared.step.Next.the-variants.{Nothing, TooLarge, Row}
+use Rattle.step.specs.declared.step.Next.the-variants.{Nothing}
 use Rattle.step.proofs.RowWrite.{stands-within}
-use Rattle.step.proofs.RowWork.{work-reads, work-not, work-value, work-call, work-apply, work-case, work-let, operate-two, case-two, apply-gives, stands-as, tag-of}
-use Rattle.step.proofs.RowBecomes.{stands-there, row-is}
+use Rattle.step.proofs.RowWork.{work-reads, work-not, work-value, work-call, work-apply, work-case, work-let, operate-two, case-two, apply-gives, tag-of}
+use Rattle.step.proofs.RowBecomes.{stands-there, row-is, as-row-is}
+
+seq-row : (whole : Term) (o : Option Term) (old new : List ℕ) (r : Next) → RowIs (nextSome whole o) old new r → SeqIs (seqOr whole o) old new r
+unfolding RowIs SeqIs nextSome seqOr
+seq-row whole none old new r h = h
+seq-row whole (some u) old new r h = h
 
 as-seq : (c : List ℕ) (at : ℕ) (w whole : Term) (o : Option Term) (old new : List ℕ) (r : Next) → ((u : Term) → rowWith c at w (words u) ≡ next whole u) → NextIs c at w o old new r → SeqIs (seqOr whole o) old new r
-unfolding NextIs SeqIs seqOr
-as-seq c at w whole none old new r e h = h
-as-seq c at w whole (some u) old new r e h = subst (λ (l : List ℕ). WroteNext l old new r) (e u) h
+as-seq c at w whole o old new r e h = seq-row whole o old new r (as-row-is c at w whole o old new r e h)
 
 -- where nothing was written, any work but a seq step is told rightly
 quiet-either : (b : Bool) (w w′ : Work) (old : List ℕ) → SeqIs w old old Nothing → SeqIs w′ old old Nothing → SeqIs (cond b w w′) old old Nothing

@@ -1,87 +1,23 @@
 -- The words of a control are those before its working place, those of the term there, and those after; with another term there, that one's
 -- words stand between.
-use Prim.Native.Nat.{ℕ, zero, suc, _+_, _-_, _<_, _≤_}
+use Prim.Native.Nat.{ℕ, zero, suc, _+_}
 use mathlib.Core.Path.{_≡_, refl, sym, ap, ap₂, _∙_, subst}
 use mathlib.Core.Logic.{_⊎_, inl, inr}
-use mathlib.Core.Bool.{Bool, true, false, cond}
+use mathlib.Core.Bool.{true, false}
 use mathlib.Core.List.{List, [], _∷_, _++_, append-assoc, append-nil}
 use native.Mathlib.Omega.{arith}
 use lib.ListN.{length, drop, take, length-append}
 use lib.Seq.{drop-append-seam, take-append-seam, drop-drop}
 use Rattle.lists.proofs.Tests.{true-or-false, true-not-false, cond-true, cond-false}
 use Rattle.term.specs.Words.{word}
-use Rattle.term.specs.Tree.{Term, Terms, int, node, end, _then_, words, wordsOf, count}
-use Rattle.term.specs.Value.{isValue, areValues}
+use Rattle.term.specs.Tree.{Term, Terms, int, node, end, _then_, words, wordsOf}
+use Rattle.term.specs.Value.{isValue}
 use Rattle.machine.specs.Place.{entered, working, workingIn, ready, replaced, replacedIn}
+use Rattle.machine.proofs.PlaceLaws.{working-past, working-into, ready-past, ready-into, replaced-past, replaced-into, replaced-whole, replaced-part}
 use Rattle.step.specs.Rows.{Stands, Plain, PlainAll, placeOf, placeAmong}
 use Rattle.step.specs.Nexts.{rowWith}
 
 -- ---- the definitions, by their tests
-module _ (t : Term) (ts : Terms) (m : ℕ) where
-  working-past : (whole : Term) → isValue t ≡ true → workingIn (t then ts) (suc m) whole ≡ workingIn ts m whole
-  unfolding workingIn
-  working-past whole v = go (isValue t) v
-    where
-      go : (b : Bool) → b ≡ true → _≡_ {A = Term} (elim b [ true ↦ workingIn ts m whole | false ↦ working t ]) (workingIn ts m whole)
-      go true e = refl
-      go false e = true-not-false e refl
-
-  working-in : (whole : Term) → isValue t ≡ false → workingIn (t then ts) (suc m) whole ≡ working t
-  unfolding workingIn
-  working-in whole v = go (isValue t) v
-    where
-      go : (b : Bool) → b ≡ false → _≡_ {A = Term} (elim b [ true ↦ workingIn ts m whole | false ↦ working t ]) (working t)
-      go true e = true-not-false refl e
-      go false e = refl
-
-  replaced-past : (new : Term) → isValue t ≡ true → replacedIn (t then ts) (suc m) new ≡ t then replacedIn ts m new
-  unfolding replacedIn
-  replaced-past new v = go (isValue t) v
-    where
-      go : (b : Bool) → b ≡ true → _≡_ {A = Terms} (elim b [ true ↦ t then replacedIn ts m new | false ↦ replaced t new then ts ]) (t then replacedIn ts m new)
-      go true e = refl
-      go false e = true-not-false e refl
-
-  replaced-in : (new : Term) → isValue t ≡ false → replacedIn (t then ts) (suc m) new ≡ replaced t new then ts
-  unfolding replacedIn
-  replaced-in new v = go (isValue t) v
-    where
-      go : (b : Bool) → b ≡ false → _≡_ {A = Terms} (elim b [ true ↦ t then replacedIn ts m new | false ↦ replaced t new then ts ]) (replaced t new then ts)
-      go true e = true-not-false refl e
-      go false e = refl
-
-  ready-past : isValue t ≡ true → ready (t then ts) (suc m) ≡ ready ts m
-  unfolding ready
-  ready-past v = go (isValue t) v
-    where
-      go : (b : Bool) → b ≡ true → _≡_ {A = Bool} (elim b [ true ↦ ready ts m | false ↦ false ]) (ready ts m)
-      go true e = refl
-      go false e = true-not-false e refl
-
-  ready-in : isValue t ≡ false → ready (t then ts) (suc m) ≡ false
-  unfolding ready
-  ready-in v = go (isValue t) v
-    where
-      go : (b : Bool) → b ≡ false → _≡_ {A = Bool} (elim b [ true ↦ ready ts m | false ↦ false ]) false
-      go true e = true-not-false refl e
-      go false e = refl
-
-replaced-here : (tag n k : ℕ) (ts : Terms) (new : Term) → ready ts (entered tag ts) ≡ true → replaced (node tag n k ts) new ≡ new
-unfolding replaced
-replaced-here tag n k ts new r = go (ready ts (entered tag ts)) r
-  where
-    go : (b : Bool) → b ≡ true → _≡_ {A = Term} (elim b [ true ↦ new | false ↦ node tag n k (replacedIn ts (entered tag ts) new) ]) new
-    go true e = refl
-    go false e = true-not-false e refl
-
-replaced-below : (tag n k : ℕ) (ts : Terms) (new : Term) → ready ts (entered tag ts) ≡ false → replaced (node tag n k ts) new ≡ node tag n k (replacedIn ts (entered tag ts) new)
-unfolding replaced
-replaced-below tag n k ts new r = go (ready ts (entered tag ts)) r
-  where
-    go : (b : Bool) → b ≡ false → _≡_ {A = Term} (elim b [ true ↦ new | false ↦ node tag n k (replacedIn ts (entered tag ts) new) ]) (node tag n k (replacedIn ts (entered tag ts) new))
-    go true e = true-not-false refl e
-    go false e = refl
-
 place-past : (t : Term) (ts : Terms) (m here at : ℕ) → isValue t ≡ true → placeAmong (t then ts) (suc m) here at ≡ placeAmong ts m here (at + length (words t))
 unfolding placeAmong
 place-past t ts m here at v = cond-true _ _ v
@@ -100,7 +36,7 @@ ready-self (t then ts) (suc m) self here at r = go (true-or-false (isValue t)) (
     go : (isValue t ≡ true) ⊎ (isValue t ≡ false) → (ready ts m ≡ true → (workingIn ts m self ≡ self) × (placeAmong ts m here (at + length (words t)) ≡ here))
         → (workingIn (t then ts) (suc m) self ≡ self) × (placeAmong (t then ts) (suc m) here at ≡ here)
     go (inl v) ih = let q = ih (sym (ready-past t ts m v) ∙ r) in (working-past t ts m self v ∙ q .0, place-past t ts m here at v ∙ q .1)
-    go (inr v) ih = true-not-false r (ready-in t ts m v)
+    go (inr v) ih = true-not-false r (ready-into t ts m v)
 
 -- ---- the split
 pub record Splits (whole : List ℕ) (part : Term) (changed-to : Term → List ℕ) (at place : ℕ) : Type 0 where
@@ -159,10 +95,10 @@ headed : (tag n k : ℕ) (us : Terms) (at : ℕ) → (ready us (entered tag us) 
     → Splits (words (node tag n k us)) (working (node tag n k us)) (λ new. words (replaced (node tag n k us) new)) at (placeOf (node tag n k us) at)
 headed tag n k us at (inl r) f =
     let q = ready-self us (entered tag us) (node tag n k us) at (at + 1) r in
-    renamed _ _ _ _ _ _ at _ _ refl (working-node tag n k us ∙ q .0) (λ new. ap words (replaced-here tag n k us new r)) (place-node tag n k us at ∙ q .1)
+    renamed _ _ _ _ _ _ at _ _ refl (working-node tag n k us ∙ q .0) (λ new. ap words (replaced-whole tag n k us new r)) (place-node tag n k us at ∙ q .1)
     (record { pre = []; post = []; is = sym (append-nil (words (node tag n k us))); changed = λ new. sym (append-nil (words new)); here = omega arith })
 headed tag n k us at (inr r) f =
-    renamed _ _ _ _ _ _ at _ _ (node-words tag n k us) (working-node tag n k us) (λ new. ap words (replaced-below tag n k us new r) ∙ node-words tag n k (replacedIn us (entered tag us) new)) (place-node tag n k us at)
+    renamed _ _ _ _ _ _ at _ _ (node-words tag n k us) (working-node tag n k us) (λ new. ap words (replaced-part tag n k us new r) ∙ node-words tag n k (replacedIn us (entered tag us) new)) (place-node tag n k us at)
     (after-words (word tag n k ∷ []) (wordsOf us) (workingIn us (entered tag us) (node tag n k us)) (λ new. wordsOf (replacedIn us (entered tag us) new)) at (placeAmong us (entered tag us) at (at + 1)) (f r))
 
 more : (t : Term) (ts : Terms) (m : ℕ) (self : Term) (here at : ℕ) → (isValue t ≡ true) ⊎ (isValue t ≡ false) → ready (t then ts) (suc m) ≡ false
@@ -173,7 +109,7 @@ more t ts m self here at (inl v) r f s =
     renamed _ _ _ _ _ _ at _ _ (then-words t ts) (working-past t ts m self v) (λ new. ap wordsOf (replaced-past t ts m new v) ∙ then-words t (replacedIn ts m new)) (place-past t ts m here at v)
     (after-words (words t) (wordsOf ts) (workingIn ts m self) (λ new. wordsOf (replacedIn ts m new)) at _ (f (sym (ready-past t ts m v) ∙ r)))
 more t ts m self here at (inr v) r f s =
-    renamed _ _ _ _ _ _ at _ _ (then-words t ts) (working-in t ts m self v) (λ new. ap wordsOf (replaced-in t ts m new v) ∙ then-words (replaced t new) ts) (place-in t ts m here at v)
+    renamed _ _ _ _ _ _ at _ _ (then-words t ts) (working-into t ts m self v) (λ new. ap wordsOf (replaced-into t ts m new v) ∙ then-words (replaced t new) ts) (place-in t ts m here at v)
     (before-words (wordsOf ts) (words t) (working t) (λ new. words (replaced t new)) at _ s)
 
 mutual
@@ -191,7 +127,7 @@ mutual
 -- ---- the term that is worked on is plain where the whole is
 plain-more : (t : Term) (ts : Terms) (m : ℕ) (whole : Term) → (isValue t ≡ true) ⊎ (isValue t ≡ false) → Plain (workingIn ts m whole) → Plain (working t) → Plain (workingIn (t then ts) (suc m) whole)
 plain-more t ts m whole (inl v) a b = subst Plain (sym (working-past t ts m whole v)) a
-plain-more t ts m whole (inr v) a b = subst Plain (sym (working-in t ts m whole v)) b
+plain-more t ts m whole (inr v) a b = subst Plain (sym (working-into t ts m whole v)) b
 
 mutual
   unfolding working workingIn Plain PlainAll

@@ -1,19 +1,19 @@
 -- Laws of the kinds of steps at the working place: call, case, let and receive.
-use Prim.Native.Nat.{ℕ, zero, suc, _+_, _-_, _<_, _≤_, min}
-use mathlib.Core.Path.{_≡_, refl, sym, ap, ap₂, _∙_, subst}
+use Prim.Native.Nat.{ℕ, _+_, _<_, _≤_}
+use mathlib.Core.Path.{_≡_, refl, sym, ap, _∙_, subst}
 use mathlib.Core.Bool.{Bool, true, false, cond, not}
 use mathlib.Core.Option.{Option, none, some}
-use mathlib.Core.List.{List, [], _∷_, _++_, append-assoc, append-nil}
+use mathlib.Core.List.{List, [], _∷_, _++_, append-assoc}
 use native.Mathlib.Omega.{arith}
 use native.Mathlib.Decide.{decLe}
-use lib.Dec.{eqb, leb}
+use lib.Dec.{eqb}
 use lib.IntN.{ℤ, _+ℤ_, _-ℤ_, _*ℤ_}
 use lib.Signed.{ltZ, leZ, quotZ, remZ}
-use lib.ListN.{length, drop, take, getD, set, replicate}
-use Rattle.lists.proofs.Tests.{eqb-of, eqb-apart, leb-of, leb-over, cond-true, cond-false, none-not-some, some-injective, true-not-false}
-use Rattle.term.specs.Words.{word, tagOf, nOf, kOf, integerWord, tagCall, tagCase, tagLet, tagReceive}
+use lib.ListN.{length, drop, getD, set, replicate}
+use Rattle.lists.proofs.Tests.{leb-of, leb-over, cond-true, cond-false, none-not-some, some-injective, true-not-false}
+use Rattle.term.specs.Words.{tagOf, nOf, kOf, integerWord, tagCall, tagCase, tagLet, tagReceive}
 use Rattle.term.specs.Rows.{passed}
-use Rattle.term.specs.Tree.{Term, Terms, int, node, end, _then_, words, wordsOf, count, Head}
+use Rattle.term.specs.Tree.{Term, Terms, int, node, end, _then_, words, wordsOf, count}
 use Rattle.term.specs.Value.{isValue}
 use Rattle.term.proofs.WordLaws.{word-parts}
 use Rattle.term.proofs.RowLaws.{passed-term, passed-none}
@@ -23,10 +23,10 @@ use Rattle.machine.specs.Operator.{signed, unsigned, ranged, isZero, inRange, d
 use Rattle.machine.specs.Match.{Bindings, unbound, with, match}
 use Rattle.machine.specs.Bind.{bind}
 use Rattle.machine.specs.Guard.{operateSome, beforeSome, guardHolds}
-use Rattle.machine.specs.Clauses.{clauseTakes, firstClause}
+use Rattle.machine.specs.Clauses.{firstClause}
 use Rattle.step.specs.Rows.{Stands, Plain, PlainAll, Bound, Matched, Matches, Wrote}
-use Rattle.step.specs.Operands.{shortTerm, isLong, ShortIs, LongIs, Gives, operateBoth, Operates, StandsHere}
-use Rattle.step.specs.Clausal.{ClauseIs, AreClauses, Takes, ChosenIs, ChoosesAt}
+use Rattle.step.specs.Operands.{isLong, LongIs, Gives, operateBoth, Operates, StandsHere}
+use Rattle.step.specs.Clausal.{AreClauses, Takes, ChosenIs, ChoosesAt}
 use Rattle.step.specs.Nexts.{rowWith, Puts, PutsCopy}
 use Rattle.step.specs.Steps.{fittedOf, WroteNext, NextIs, CalledAt, CallNext, CasedAt, ClauseNext, CaseNext, LetNext, ReceiveNext}
 use Rattle.step.specs.declared.operand.Operand.{Operand}
@@ -35,11 +35,11 @@ use Rattle.step.specs.declared.clause.Chosen.{Chosen}
 use Rattle.step.specs.declared.clause.Chosen.the-variants.{Clause, Nothing}
 use Rattle.step.specs.declared.step.Next.{Next}
 use Rattle.step.specs.declared.step.Next.the-variants.{Nothing as noNext, TooLarge, Row}
-use Rattle.step.proofs.RowTerms.{NodeAt, node-at, one-skip, past-term, plain-whole}
+use Rattle.step.proofs.RowTerms.{node-at, one-skip, past-term, plain-whole}
 use Rattle.step.proofs.RowMatch.{bound-more}
 use Rattle.step.proofs.RowWrite.{stands-within}
 use Rattle.step.proofs.RowOperand.{as-row, one-term, short-is-node, short-is-integer, gives-short, gives-here, gives-there, gives-stuck}
-use Rattle.step.proofs.RowClause.{PartsAt, parts-at, nothing-bound, takes-is, whenHolds, bodyUnder, matched-one}
+use Rattle.step.proofs.RowClause.{parts-at, nothing-bound, takes-is, whenHolds, bodyUnder, matched-one}
 
 -- ---- whether a row fits
 pub fitted-row : (r room : ℕ) → r ≤ room → Row r ≡ fittedOf r room

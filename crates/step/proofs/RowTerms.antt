@@ -2,23 +2,23 @@
 use Prim.Native.Nat.{ℕ, zero, suc, _+_, _-_, _<_, _≤_, suc-le-suc}
 use mathlib.Core.Path.{_≡_, refl, sym, ap, ap₂, _∙_}
 use mathlib.Core.Bool.{Bool, true, false, _&&_, _||_}
-use mathlib.Core.Logic.{_⊎_, inl, inr}
-use mathlib.Core.List.{List, [], _∷_, _++_, append-assoc, append-nil}
+use mathlib.Core.Logic.{inl, inr}
+use mathlib.Core.List.{List, [], _∷_, _++_}
 use native.Mathlib.Omega.{arith}
-use native.Mathlib.Nat.{add-zero, add-suc, suc-add}
+use native.Mathlib.Nat.{add-zero}
 use native.Mathlib.Numerals.{add-one}
 use lib.Dec.{eqb}
-use lib.ListN.{length, drop, getD, length-append, length-drop}
+use lib.ListN.{length, drop, getD, length-drop}
 use lib.Seq.{drop-drop, drop-append-seam}
-use Rattle.lists.proofs.Tests.{eqb-true, and-left, and-right, or-true, eqb-of}
-use Rattle.term.specs.Words.{word, tagOf, nOf, kOf, integerWord, tagInteger, tagVariable, tagCase, tagFunction}
+use Rattle.lists.proofs.Tests.{eqb-true, and-left, and-right, or-true}
+use Rattle.term.specs.Words.{word, tagOf, nOf, kOf, integerWord, tagInteger, tagCase, tagFunction}
 use Rattle.term.specs.Table.{Children, alike, body, ofClause, ofCase, ofReceive, Row, noRow, table, rowOf, childCount, arity}
 use Rattle.term.specs.Tree.{Term, Terms, int, node, end, _then_, words, wordsOf, count, Head, Whole, WholeAll}
 use Rattle.term.specs.Rows.{passed}
 use Rattle.term.proofs.RowLaws.{passed-none, passed-term, passed-within}
 use Rattle.term.proofs.WordLaws.{tag-word, n-word, k-word}
-use Rattle.term.proofs.TreeLaws.{_andAll_, words-all, count-all, whole-all, words-one}
-use Rattle.step.specs.Rows.{Stands, Plain, PlainAll}
+use Rattle.term.proofs.TreeLaws.{_andAll_, words-all, count-all}
+use Rattle.step.specs.Rows.{Plain, PlainAll}
 
 -- ---- the number of children, as the code tests it
 -- only the tags of case and function have another number of children than n

@@ -1,15 +1,14 @@
 -- Laws of what a control is about to do.
-use Prim.Native.Nat.{ℕ, zero, suc, _+_, _-_, _<_, _≤_}
+use Prim.Native.Nat.{ℕ, _+_, _-_, _<_, _≤_}
 use mathlib.Core.Path.{_≡_, refl, sym, ap, ap₂, _∙_, subst}
 use mathlib.Core.Logic.{_⊎_, inl, inr}
-use mathlib.Core.Bool.{Bool, true, false, cond}
+use mathlib.Core.Bool.{true, false, cond}
 use mathlib.Core.Option.{Option, none, some}
-use mathlib.Core.List.{List, [], _∷_, _++_, append-nil}
+use mathlib.Core.List.{List, [], _++_, append-nil}
 use native.Mathlib.Omega.{arith}
-use lib.Dec.{eqb}
-use lib.ListN.{length, drop, getD}
-use Rattle.lists.proofs.Tests.{eqb-of, eqb-apart, true-or-false, true-not-false, cond-true, cond-false}
-use Rattle.term.specs.Words.{tagOf, nOf, kOf, tagPid, tagCall, tagApply, tagCase, tagLet, tagReceive, tagSpawn, tagSend, tagSelf, tagCheck}
+use lib.ListN.{length, getD}
+use Rattle.lists.proofs.Tests.{eqb-apart, true-or-false, cond-true, cond-false, choose-true, choose-false}
+use Rattle.term.specs.Words.{tagOf, kOf, tagPid, tagCall, tagApply, tagCase, tagLet, tagReceive, tagSpawn, tagSend, tagSelf, tagCheck}
 use Rattle.term.specs.Tree.{Term, Terms, int, node, end, _then_, words, wordsOf, count, WholeAll}
 use Rattle.term.specs.Read.{termOf, termsOf}
 use Rattle.term.specs.Value.{isValue}
@@ -19,22 +18,20 @@ use Rattle.machine.specs.Match.{unbound, with}
 use Rattle.machine.specs.Bind.{bind, parameters}
 use Rattle.machine.specs.Clauses.{firstClause}
 use Rattle.machine.specs.Place.{working}
-use Rattle.machine.specs.Work.{Work, finished, stuck, toSeq, toSend, toReceive, toSpawn, toSelf, toCheck, next, seqOr, bodyWith, caseGives, letGives, sendTo, sendWork, workAt, workOf, work}
+use Rattle.machine.specs.Work.{Work, finished, stuck, toSend, next, seqOr, bodyWith, caseGives, letGives, sendTo, sendWork, workAt, workOf, work}
 use Rattle.step.specs.Rows.{Stands, Plain, placeOf, placeAmong, Finds}
-use Rattle.step.specs.Operands.{ShortIs, LongIs, Gives}
-use Rattle.step.specs.Clausal.{AreClauses}
 use Rattle.step.specs.Steps.{CalledAt, CasedAt}
-use Rattle.step.specs.Controls.{Pair, Applied, Redex, ControlIs, doingOf, doingSeq, CallDoing, CaseDoing, SendDoing, DoingAt, DoingOf}
+use Rattle.step.specs.Controls.{Pair, Applied, Redex, doingOf, doingSeq, CallDoing, CaseDoing, SendDoing, DoingAt, DoingOf}
 use Rattle.step.specs.declared.operand.Operand.{Operand}
 use Rattle.step.specs.declared.operand.Operand.the-variants.{Short, Here, There, Stuck as noOperand}
 use Rattle.step.specs.declared.clause.Chosen.{Chosen}
 use Rattle.step.specs.declared.clause.Chosen.the-variants.{Clause, Nothing}
 use Rattle.step.specs.declared.work.Doing.{Doing}
 use Rattle.step.specs.declared.work.Doing.the-variants.{Finished, Stuck, Seq, Send, Receive, Spawn, Own, Check}
-use Rattle.step.proofs.RowTerms.{NodeAt, node-at, integer-at, plain-whole}
+use Rattle.step.proofs.RowTerms.{node-at, integer-at, plain-whole}
 use Rattle.step.proofs.RowWrite.{stands-within}
 use Rattle.step.proofs.RowOperand.{as-row, one-term, head-of, gives-short, gives-here, gives-there, gives-stuck}
-use Rattle.step.proofs.RowStep.{ChildrenAt, children-at, first-stands, chosen-clause, chosen-nothing}
+use Rattle.step.proofs.RowStep.{children-at, first-stands, chosen-clause, chosen-nothing}
 use Rattle.step.proofs.RowSplit.{working-stands}
 
 seq-some : (o : Option Term) (t : Term) → o ≡ some t → Seq ≡ doingSeq o
@@ -82,11 +79,7 @@ send-pid whole v tag n k ts e = rw e
 
 send-other : (whole v : Term) (tag n k : ℕ) (ts : Terms) → ¬ (tag ≡ tagPid) → Stuck ≡ doingOf (sendTo whole (node tag n k ts) v)
 unfolding sendTo
-send-other whole v tag n k ts d = go (eqb tag tagPid) (eqb-apart tag tagPid d) (toSend k (words v) (next whole v))
-  where
-    go : (b : Bool) → b ≡ false → (w : Work) → _≡_ {A = Doing} Stuck (doingOf (elim b [ true ↦ w | false ↦ stuck ]))
-    go true e w = true-not-false refl e
-    go false e w = stuck-is
+send-other whole v tag n k ts d = stuck-is ∙ ap doingOf (sym (choose-false (toSend k (words v) (next whole v)) stuck (eqb-apart tag tagPid d)))
 
 send-integer : (whole v : Term) (x : ℕ) → Stuck ≡ doingOf (sendTo whole (int x) v)
 unfolding sendTo doingOf
@@ -278,19 +271,11 @@ module _ (c : List ℕ) (at : ℕ) where
 -- ---- a whole control
 pub work-value : (functions : Terms) (t : Term) → isValue t ≡ true → workOf functions t ≡ finished
 unfolding workOf
-work-value functions t v = go (isValue t) v
-  where
-    go : (b : Bool) → b ≡ true → _≡_ {A = Work} (elim b [ true ↦ finished | false ↦ workAt functions t (working t) ]) finished
-    go true e = refl
-    go false e = true-not-false e refl
+work-value functions t v = choose-true finished (workAt functions t (working t)) v
 
 pub work-not : (functions : Terms) (t : Term) → isValue t ≡ false → workOf functions t ≡ workAt functions t (working t)
 unfolding workOf
-work-not functions t v = go (isValue t) v
-  where
-    go : (b : Bool) → b ≡ false → _≡_ {A = Work} (elim b [ true ↦ finished | false ↦ workAt functions t (working t) ]) (workAt functions t (working t))
-    go true e = true-not-false refl e
-    go false e = refl
+work-not functions t v = choose-false finished (workAt functions t (working t)) v
 
 -- where `find` leads: past the end for a value, else to the working place
 pub found-place : (c : List ℕ) (at : ℕ) (t : Term) → Finds c 0 1 (length c) at → words t ≡ c → Plain t → at ≡ cond (isValue t) (length c) (placeOf t 0)

@@ -1,16 +1,13 @@
 -- Laws of writing words one after another, as far as there is room.
-use Prim.Native.Nat.{ℕ, zero, suc, _+_, _-_, _<_, _≤_, min}
+use Prim.Native.Nat.{ℕ, suc, _+_, _-_, _<_, _≤_, min}
 use mathlib.Core.Path.{_≡_, refl, sym, ap, ap₂, _∙_}
-use mathlib.Core.Logic.{_⊎_, inl, inr}
-use mathlib.Core.Bool.{cond}
 use mathlib.Core.List.{List, [], _∷_, _++_}
 use native.Mathlib.Omega.{arith}
-use native.Mathlib.Decide.{ℕ-discrete, decLe}
+use native.Mathlib.Decide.{decLe}
 use native.Mathlib.Nat.{add-zero, add-suc, suc-add}
 use native.Mathlib.Numerals.{add-one}
-use lib.Dec.{eqb}
-use lib.ListN.{length, drop, take, getD, set, length-append, length-drop, length-set, List·getD-eq-default}
-use lib.Seq.{sets, length-sets, take-suc, getD-drop, set-out, length-take-le, take-append-seam}
+use lib.ListN.{length, drop, take, getD, set, length-append, length-drop, List·getD-eq-default}
+use lib.Seq.{sets, length-sets, take-suc, getD-drop, set-out, take-append-seam}
 use Rattle.lists.proofs.Tests.{eqb-of, eqb-apart}
 use Rattle.term.specs.Words.{tagOf, kOf, tagVariable}
 use Rattle.term.specs.Rows.{passed}

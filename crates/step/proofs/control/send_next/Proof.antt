@@ -19,7 +19,7 @@ send-next-spec = tie.close (tie.spec
     (λ c. search needs)
     (λ c κs. search needs)
     (λ c. search needs)
-    (λ c κs. let h = skip-within (c .before .before .before .before .before .before .before .args .c .now) (c .before .before .before .before .find .result + 1) 1 _ (c .before .before .skip .ensures) (omega arith) in (omega arith, omega arith, omega arith, omega arith))
+    (λ c κs. let h = skip-within (c .before .before .before .before .before .before .before .args .c .now) (c .before .before .before .before .find .result + 1) _ _ (c .before .before .skip .ensures) (omega arith) in (omega arith, omega arith, omega arith, omega arith))
     (λ c κs. search needs)
     (λ c. search needs)
     (λ c. search sending-written))
