@@ -1,9 +1,8 @@
 -- An entry more: what the code leaves is the image after.
 use Prim.Native.Nat.{ℕ, zero, suc, _+_, _-_, _*_, _≤_, _<_}
 use mathlib.Core.Path.{_≡_, refl, sym, _∙_, ap}
-use mathlib.Core.Bool.{true}
 use mathlib.Core.Option.{Option, none, some}
-use mathlib.Core.List.{List, [], _∷_, _++_, map, map-append, reverse}
+use mathlib.Core.List.{List, [], _∷_, _++_, map, map-append}
 use native.Mathlib.Nat.{zero-mul}
 use native.Mathlib.Omega.{arith}
 use lib.ListN.{length, take, drop, getD, length-map, length-append}
@@ -11,21 +10,19 @@ use borrow.Rule.Slice.PartMut.{midOf, putMid}
 use Rattle.lists.proofs.Tests.{true-not-false}
 use Rattle.lists.proofs.Tables.{put-same, put-other}
 use Rattle.rules.specs.State.{Sizes, Message, Kind, rec, spawn, asRec, Entry, Process, State, historyAt, inPool}
-use Rattle.rules.specs.Sound.{Sound}
 use Rattle.rules.specs.Depends.{queueBefore}
 use Rattle.rules.specs.Load.{newProcess}
-use Rattle.rules.specs.Commands.{nothing, ownQueue, other, turn, entry, setProcess, setBeside, setQueue, apply}
+use Rattle.rules.specs.Commands.{nothing, ownQueue, other, turn, entry, setProcess, setBeside, apply}
 use Rattle.store.specs.Image.{IsImage}
-use Rattle.store.specs.Layout.{blocksFrom, slotHead, slotSize, blockSize, slotCount, kindRec, kindSpawn, kindLive, kindNumber, numberIn, nameWord, Slot, freeSlot, slotWords, entrySlot, presentSlot, placeSlots, slotsAt, block, image}
+use Rattle.store.specs.Layout.{blocksFrom, slotHead, slotSize, blockSize, kindRec, kindSpawn, kindLive, kindNumber, numberIn, nameWord, Slot, freeSlot, slotWords, presentSlot, placeSlots, slotsAt, block, image}
 use Rattle.store.proofs.Lengths.{length-slot}
 use Rattle.store.proofs.LayoutLaws.{names-most}
 use Rattle.store.proofs.SoundStates.{sizes-in, outside}
-use Rattle.store.proofs.View.{ElsewhereSame}
 use Rattle.store.proofs.Moves.{elsewhere-then, standing, turn-elsewhere, turn-slots, rec-elsewhere, rec-slots, process-elsewhere, process-slots, born-block}
 use Rattle.reading.specs.Reads.{Holds, OfState, IsPlace, controlAt}
 use Rattle.reading.proofs.Holding.{of-image, at-image, holding, of-state}
 use Rattle.writing.specs.declared.spans.Span.{Span}
-use Rattle.writing.specs.Slots.{headed, controlled, without, begun, within, copied, grownWords, keptWords, tookWords, Located, Spanned, ControlRoom, NamesRoom, TwoSlots, GrowRoom, TakeRoom}
+use Rattle.writing.specs.Slots.{headed, controlled, without, begun, within, copied, grownWords, keptWords, tookWords, Located, Spanned, ControlRoom, TwoSlots, GrowRoom, TakeRoom}
 use Rattle.writing.specs.Writes.{Leads, grown, Enters, Takes, Spawns, CanGrow, CanTake, CanSpawn}
 use Rattle.writing.proofs.SlotWrites.{names-count, withControl, withNames, controlled-slot, headed-slot, without-slot, front-slot, begun-slot}
 use Rattle.writing.proofs.SlotCode.{mid-long}

@@ -1,10 +1,10 @@
 -- A message more or less in a queue: what the code leaves is the image after.
-use Prim.Native.Nat.{ℕ, suc, _+_, _-_, _*_, _≤_, _<_}
+use Prim.Native.Nat.{ℕ, suc, _+_, _-_, _≤_, _<_}
 use mathlib.Core.Path.{_≡_, refl, sym, _∙_, ap}
 use mathlib.Core.Bool.{true}
 use mathlib.Core.Logic.{inl, inr}
 use mathlib.Core.Option.{Option, some}
-use mathlib.Core.List.{List, [], _∷_, _++_, map, map-append, reverse}
+use mathlib.Core.List.{List, [], _∷_, _++_, map, map-append}
 use native.Mathlib.Omega.{arith}
 use lib.ListN.{length, take, drop, getD, length-map}
 use borrow.Rule.Slice.PartMut.{midOf, putMid}
@@ -16,12 +16,12 @@ use Rattle.rules.specs.State.{Message, Process, State, inPool}
 use Rattle.rules.specs.Commands.{post, apply}
 use Rattle.rules.proofs.Frame.{process-of}
 use Rattle.store.specs.Image.{IsImage}
-use Rattle.store.specs.Layout.{slotHead, slotSize, nameWord, Slot, slotWords, entrySlot, presentSlot, placeSlots, slotsAt, image}
+use Rattle.store.specs.Layout.{slotHead, slotSize, nameWord, slotWords, presentSlot, placeSlots, image}
 use Rattle.store.proofs.Lengths.{length-slot}
 use Rattle.store.proofs.Moves.{post-elsewhere, post-slots}
 use Rattle.reading.specs.Reads.{Holds, OfState, IsPlace}
 use Rattle.writing.specs.declared.spans.Span.{Span}
-use Rattle.writing.specs.Slots.{pushed, without, within, Located, Spanned, NamesRoom}
+use Rattle.writing.specs.Slots.{pushed, without, within, Spanned, NamesRoom}
 use Rattle.writing.specs.Writes.{Leads, Posts, Unposts, CanPost, CanTake}
 use Rattle.reading.proofs.Holding.{of-image, at-image, holding, of-state}
 use Rattle.writing.proofs.SlotWrites.{names-count, withNames, pushed-slot, without-slot}

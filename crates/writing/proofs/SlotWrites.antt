@@ -1,7 +1,7 @@
 -- What is written into the words of a slot leaves the words of the slot that is meant.
 use Prim.Native.Nat.{ℕ, zero, suc, _+_, _-_, _≤_, _<_}
 use mathlib.Core.Path.{_≡_, refl, sym, _∙_, ap}
-use mathlib.Core.List.{List, [], _∷_, _++_, append-assoc, append-nil}
+use mathlib.Core.List.{List, [], _∷_, _++_, append-nil}
 use native.Mathlib.Omega.{arith}
 use lib.ListN.{length, take, drop, getD, set, length-append, length-drop}
 use lib.Seq.{take-at, drop-at, drop-length, length-take-le}
@@ -10,7 +10,7 @@ use Rattle.lists.specs.Fill.{fillTo}
 use Rattle.lists.proofs.Fill.{length-fill, take-fill, fill-more}
 use Rattle.lists.proofs.Blocks.{mid-behind, put-behind}
 use Rattle.rules.specs.State.{Sizes}
-use Rattle.store.specs.Layout.{slotHead, namesRoom, slotSize, Slot, slotWords}
+use Rattle.store.specs.Layout.{slotHead, namesRoom, Slot, slotWords}
 use Rattle.store.proofs.Lengths.{length-slot}
 use Rattle.store.proofs.Slots.{slotFront}
 use Rattle.writing.specs.Slots.{headed, controlled, pushed, without, begun}

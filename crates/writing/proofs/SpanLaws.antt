@@ -11,7 +11,7 @@ use Rattle.store.proofs.SoundStates.{sizes-in}
 use Rattle.store.proofs.LayoutLaws.{slot-most}
 use Rattle.store.proofs.View.{words-word}
 use Rattle.reading.specs.Reads.{OfState, IsPlace}
-use Rattle.writing.specs.Slots.{Located, Spanned}
+use Rattle.writing.specs.Slots.{Spanned}
 use Rattle.reading.proofs.Holding.{of-state, sizesRead, sizes-read, good-read, slot-in, slot-low}
 
 pub located : (l : List ℕ) (image : IsImage l) (p i from size : ℕ) → OfState l (IsPlace p) → OfState l (λ s. i ≤ s .sizes .entries)

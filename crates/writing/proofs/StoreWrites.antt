@@ -1,11 +1,10 @@
 -- A store that holds a state, and one of its slots changed.
-use Prim.Native.Nat.{ℕ, suc, _+_, _-_, _*_, _≤_, _<_}
+use Prim.Native.Nat.{ℕ, suc, _+_, _*_, _≤_, _<_}
 use mathlib.Core.Path.{_≡_, refl, sym, _∙_, ap}
 use mathlib.Core.Bool.{true}
 use mathlib.Core.Logic.{inl, inr}
-use mathlib.Core.Option.{Option, none, some}
+use mathlib.Core.Option.{Option, some}
 use mathlib.Core.List.{List, [], _∷_, _++_, map, reverse}
-use native.Mathlib.Nat.{zero-mul}
 use native.Mathlib.Omega.{arith}
 use lib.Dec.{ltb}
 use lib.ListN.{length, take, drop, getD, set, length-map, List·getD-eq-default}
@@ -13,12 +12,11 @@ use lib.Seq.{getD-take, getD-drop}
 use borrow.Rule.Slice.PartMut.{midOf, putMid}
 use Rattle.lists.proofs.Tests.{true-or-false, true-not-false, ltb-true, ltb-false}
 use Rattle.lists.proofs.Blocks.{block-in, mid-mid, put-put}
-use Rattle.rules.specs.State.{Message, Entry, Process, State, historyOf, historyAt, inPool}
+use Rattle.rules.specs.State.{Entry, Process, State, historyOf, historyAt, inPool}
 use Rattle.rules.specs.Commands.{nothing, turn, apply}
 use Rattle.rules.proofs.Frame.{process-of}
 use Rattle.rules.specs.Sound.{Sound}
 use Rattle.store.specs.Layout.{blocksFrom, slotSize, slotCount, blockSize, namesRoom, nameWord, Slot, freeSlot, slotWords, entrySlot, presentSlot, placeSlots, slotsAt, block, image}
-use Rattle.store.proofs.Lengths.{length-slot}
 use Rattle.store.proofs.Slots.{slot-back, slot-next}
 use Rattle.store.proofs.Moves.{standing, turn-elsewhere, turn-slots, grown, length-slots}
 use Rattle.reading.specs.Reads.{controlOf, controlAt}

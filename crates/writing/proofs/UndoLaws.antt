@@ -1,39 +1,36 @@
 -- An entry less: what the code leaves is the image after.
-use Prim.Native.Nat.{ℕ, zero, suc, _+_, _-_, _*_, _≤_, _<_}
+use Prim.Native.Nat.{ℕ, suc, _+_, _-_, _*_, _≤_, _<_}
 use mathlib.Core.Path.{_≡_, refl, sym, _∙_, ap, subst}
 use mathlib.Core.Bool.{Bool, true, false, not, _&&_}
-use mathlib.Core.Logic.{inl, inr}
 use mathlib.Core.Option.{Option, none, some}
-use mathlib.Core.List.{List, [], _∷_, _++_, map, reverse}
-use native.Mathlib.Nat.{zero-mul}
+use mathlib.Core.List.{List, [], _∷_, _++_, map}
 use native.Mathlib.Omega.{arith}
-use lib.Dec.{eqb}
-use lib.ListN.{length, take, drop, getD, set, replicate}
+use lib.ListN.{length, take, drop, getD, replicate}
 use lib.Seq.{getD-at, getD-take, getD-drop}
 use borrow.Rule.Slice.PartMut.{midOf, putMid}
 use Rattle.lists.specs.Fill.{fillTo}
 use Rattle.lists.proofs.Fill.{fill-none}
-use Rattle.lists.proofs.Tests.{none-not-some, some-injective, true-or-false, true-not-false, and-left, eqb-same, cond-true}
+use Rattle.lists.proofs.Tests.{none-not-some, some-injective, true-not-false, and-left, eqb-same, cond-true}
 use Rattle.lists.proofs.Tables.{put-same, put-other}
 use Rattle.lists.proofs.Blocks.{mid-mid}
-use Rattle.rules.specs.State.{Sizes, Message, Kind, seq, send, rec, spawn, self, check, asRec, Entry, Process, State, historyOf, historyAt, entryAt, isProcess, inPool, sameQueue}
+use Rattle.rules.specs.State.{Message, Kind, seq, send, rec, spawn, self, check, asRec, Entry, Process, State, historyOf, historyAt, entryAt, isProcess, inPool, sameQueue}
 use Rattle.rules.specs.Flight.{sends, flies, awaited}
 use Rattle.rules.specs.Answers.{held}
 use Rattle.rules.specs.Depends.{queueBefore}
-use Rattle.rules.specs.Commands.{nothing, ownQueue, other, turn, setProcess, setBeside, setQueue, apply, Plan, refuse, accept, need, undone, isNew, untouched, undoing, backing, atProcess, back, run, afterPlan, runState}
+use Rattle.rules.specs.Commands.{nothing, ownQueue, other, turn, setProcess, setBeside, setQueue, apply, Plan, need, undone, isNew, untouched, undoing, backing, atProcess, back, run, afterPlan, runState}
 use Rattle.store.specs.Image.{IsImage}
-use Rattle.store.specs.Layout.{blocksFrom, slotHead, slotSize, blockSize, slotCount, kindRec, kindSpawn, kindLive, kindNumber, numberIn, nameWord, Slot, freeSlot, slotWords, entrySlot, presentSlot, placeSlots, slotsAt, block, image}
+use Rattle.store.specs.Layout.{blocksFrom, slotHead, slotSize, blockSize, kindRec, kindSpawn, kindLive, kindNumber, numberIn, nameWord, Slot, freeSlot, slotWords, entrySlot, presentSlot, placeSlots, slotsAt, block, image}
 use Rattle.store.proofs.View.{ElsewhereSame}
 use Rattle.store.proofs.Slots.{slot-freed}
 use Rattle.store.proofs.Moves.{elsewhere-then, standing, turn-elsewhere, turn-slots, rec-elsewhere, rec-slots, process-elsewhere, process-slots, grown, length-slots}
-use Rattle.reading.specs.Reads.{Holds, OfState, IsPlace, IsEntry, OfEntry, controlAt}
-use Rattle.reading.proofs.Holding.{of-image, at-image, holding, of-state}
+use Rattle.reading.specs.Reads.{Holds, OfState, IsPlace, IsEntry, OfEntry}
+use Rattle.reading.proofs.Holding.{of-image, holding, of-state}
 use Rattle.writing.specs.declared.spans.Span.{Span}
-use Rattle.writing.specs.Slots.{headed, within, copied, cleared, shrunkWords, releasedWords, Located, Spanned}
+use Rattle.writing.specs.Slots.{headed, within, copied, cleared, shrunkWords, releasedWords, Spanned}
 use Rattle.writing.specs.Writes.{Leads, Undoes, CanUndo}
-use Rattle.writing.proofs.SlotWrites.{names-count, withNames, withHead, headed-slot, front-slot}
+use Rattle.writing.proofs.SlotWrites.{names-count, headed-slot, front-slot}
 use Rattle.writing.proofs.SlotCode.{cleared-written}
-use Rattle.writing.proofs.StoreWrites.{in-places, slot-inside, slot-there, slot-put, present-lent, present-word, present-changed, front-put, elsewhere-back, standing-there}
+use Rattle.writing.proofs.StoreWrites.{in-places, slot-inside, slot-there, slot-put, present-word, present-changed, front-put, elsewhere-back}
 use Rattle.writing.proofs.PostLaws.{span-size}
 
 -- ---- what an accepted undo does

@@ -27,14 +27,14 @@ fn shrink(store: &mut [u32], at: usize, end: usize, to: usize, words: usize)
 }
 
 // The control and the queue before return.
-fn release(store: &mut [u32], at: usize, end: usize, to: usize, words: usize)
-    requires { ⌜ ShrinkRoom at «end» to words (now store) ⌝ }
-    ensures { λ _. ⌜ now (store .exit) ≡ releasedWords at «end» to (now (store .entry)) ⌝ }
+fn release(store: &mut [u32], newest: usize, end: usize, to: usize, words: usize)
+    requires { ⌜ ShrinkRoom newest «end» to words (now store) ⌝ }
+    ensures { λ _. ⌜ now (store .exit) ≡ releasedWords newest «end» to (now (store .entry)) ⌝ }
 {
-    let from = at + 4;
+    let from = newest + 4;
     let queued = store[from];
-    copy_slot(store, at, to, end - at, LIVE, 0, queued);
-    clear(&mut store[at..end]);
+    copy_slot(store, newest, to, end - newest, LIVE, 0, queued);
+    clear(&mut store[newest..end]);
 }
 
 // p's newest entry is undone: the control before it returns, a rec's queue before too, and a spawn's child goes.

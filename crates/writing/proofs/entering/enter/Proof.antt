@@ -10,31 +10,24 @@ use Rattle.reading.proofs.state.entry_count.Reads as entry-count-reads
 use Rattle.writing.proofs.entering.grow.Reads as grow-reads
 use Rattle.writing.proofs.spans.locate.Reads as locate-reads
 
--- src/entering.rt:31:9
 entry-count-requires : tie.Need-entry-count-requires
 entry-count-requires c κs = let S = c .before .before .before in (S .pre .0, growing-place _ _ _ (S .pre .1))
 
--- src/entering.rt:32:9
 locate-requires : tie.Need-locate-requires
 locate-requires c κs = let S = c .before .before .before .before .before in (S .pre .0, growing-place _ _ _ (S .pre .1), no-entry _)
 
--- src/entering.rt:33:33
 add-locate : tie.Need-add-locate
 add-locate c = omega (arith, count-small _ (c .before .before .before .before .before .before .before .pre .0) _ _ (c .before .before .before .entry-count .ensures))
 
--- src/entering.rt:33:9
 locate-requires-2 : tie.Need-locate-requires-2
 locate-requires-2 c κs = let S = c .before .before .before .before .before .before .before in (S .pre .0, growing-place _ _ _ (S .pre .1), growing-index _ _ _ _ (S .pre .1) (c .before .before .before .entry-count .ensures))
 
--- src/entering.rt:34:5
 grow-requires : tie.Need-grow-requires
 grow-requires c κs = let S = c .before .before .before .before .before .before .before .before .before in grow-room _ _ _ _ _ _ (S .pre .1) (c .before .before .before .locate .ensures) (c .before .locate2 .ensures) (S .pre .0)
 
--- src/entering.rt:27:1
 same-length : tie.Need-same-length
 same-length c = search needs
 
--- src/entering.rt:27:1
 returns : tie.Need-returns
 returns c = let S = c .before .before .before .before .before .before .before .before .before .before .before .before in enter-leads _ _ _ _ _ _ (S .pre .1) (c .before .before .before .before .before .before .locate .ensures) (c .before .before .before .before .locate2 .ensures) (c .before .before .before .before .before .before .before .before .entry-count .ensures) _ _ _ (c .before .before .grow .ensures)
 
