@@ -1,14 +1,14 @@
 -- A store that holds a state: its sizes are the words that the code reads, and where its slots stand.
-use Prim.Native.Nat.{ℕ, suc, _+_, _*_, _-_, _≤_, _<_}
+use Prim.Native.Nat.{ℕ, _+_, _*_, _-_, _≤_, _<_}
 use mathlib.Core.Path.{_≡_, refl, sym, _∙_, ap, subst}
 use mathlib.Core.Bool.{true}
-use mathlib.Core.List.{List, _++_}
+use mathlib.Core.List.{List}
 use native.Mathlib.Omega.{arith}
 use lib.ListN.{length, take, drop, getD}
 use Rattle.rules.specs.State.{Sizes, State}
 use Rattle.rules.specs.Load.{goodSizes}
 use Rattle.store.specs.Image.{IsImage}
-use Rattle.store.specs.Layout.{blocksFrom, slotSize, slotCount, blockSize, needed, freeSlot, slotWords, slotsAt}
+use Rattle.store.specs.Layout.{blocksFrom, slotSize, blockSize, needed, freeSlot, slotWords, slotsAt}
 use Rattle.store.specs.Sizing.{sizesOf}
 use Rattle.store.proofs.LayoutLaws.{slot-within, blocks-most}
 use Rattle.store.proofs.View.{places-word, entries-word, words-word, long-enough, slot-read}

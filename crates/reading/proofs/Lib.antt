@@ -1,3 +1,8 @@
 pub mod Holding
 pub mod Slotted
 pub mod StateReads
+pub mod Oldest
+pub mod Naming
+pub mod SendReads
+pub mod MailReads
+pub mod FlightReads

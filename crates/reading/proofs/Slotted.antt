@@ -1,8 +1,7 @@
 -- The slots of a sound state: their words, and what the slot of the present and the slots of entries are.
 use Prim.Native.Nat.{ℕ, zero, suc, _+_, _≤_, _<_}
-use mathlib.Core.Path.{_≡_, refl, sym, _∙_, ap, subst}
+use mathlib.Core.Path.{_≡_, refl, sym, _∙_, ap}
 use mathlib.Core.Logic.{inl, inr}
-use mathlib.Core.Bool.{Bool, true, false, cond}
 use mathlib.Core.Option.{Option, none, some}
 use mathlib.Core.List.{List, [], _∷_, _++_, map, map-append, reverse, reverse-cons}
 use native.Mathlib.Decide.{ℕ-discrete}
@@ -16,7 +15,7 @@ use Rattle.lists.proofs.All.{all-getD}
 use Rattle.rules.specs.State.{Message, Entry, Process, State, historyOf, historyAt, entryAt, isProcess, inPool}
 use Rattle.rules.specs.Sound.{Sound}
 use Rattle.rules.proofs.Histories.{entry-suffix, suffix-length}
-use Rattle.store.specs.Layout.{slotHead, namesRoom, slotSize, kindFree, kindLive, Slot, freeSlot, slotWords, nameWord, entrySlot, placeSlots, slotsAt}
+use Rattle.store.specs.Layout.{slotHead, slotSize, kindFree, kindLive, Slot, freeSlot, slotWords, nameWord, entrySlot, placeSlots, slotsAt}
 use Rattle.store.proofs.Lengths.{length-slot}
 use Rattle.store.proofs.Reading.{FitsSlot, Used}
 use Rattle.store.proofs.Decoding.{slots-used, slots-fit}

@@ -1,7 +1,7 @@
 -- What the code reads of a store's head and slots, said of the state that the store holds.
 use Prim.Native.Nat.{ℕ, suc, _+_, _-_, _≤_, _<_}
-use mathlib.Core.Path.{_≡_, refl, sym, _∙_, ap, subst}
-use mathlib.Core.Bool.{Bool, true, false}
+use mathlib.Core.Path.{_≡_, sym, _∙_, ap}
+use mathlib.Core.Bool.{false}
 use mathlib.Core.Option.{some}
 use mathlib.Core.List.{List, map}
 use native.Mathlib.Decide.{decLt}
@@ -16,8 +16,8 @@ use Rattle.store.specs.Layout.{headWords, slotHead, kindFree, kindLive, Slot, f
 use Rattle.store.proofs.View.{places-word, entries-word, words-word, module-length-word, module-lent}
 use Rattle.store.proofs.SoundStates.{SizesIn, sizes-in, module-short}
 use Rattle.reading.specs.Reads.{Holds, OfState, IsPlace, IsEntry, OfEntry, controlAt}
-use Rattle.reading.proofs.Holding.{of-image, at-image, holding, of-state, head-in}
-use Rattle.reading.proofs.Slotted.{slotThere, kind-there, number-there, head-there, control-in, names-in, control-there, names-there, present-kind, present-control, present-names, entry-there, used-there, free-there, entry-place}
+use Rattle.reading.proofs.Holding.{at-image, holding, of-state, head-in}
+use Rattle.reading.proofs.Slotted.{kind-there, number-there, head-there, control-in, names-in, control-there, names-there, present-kind, present-control, present-names, entry-there, used-there, free-there, entry-place}
 
 -- x are the words of slot j of place p
 abbrev pub SlotAt : (l : List ℕ) (p j : ℕ) (x : List ℕ) → Type 0

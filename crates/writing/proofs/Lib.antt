@@ -1,0 +1,7 @@
+pub mod SlotWrites
+pub mod SlotCode
+pub mod SpanLaws
+pub mod StoreWrites
+pub mod PostLaws
+pub mod EnterLaws
+pub mod UndoLaws

@@ -2,24 +2,16 @@ use Rattle.reading.proofs.StateReads.{entry-is-place, entry-index, entr
 use native.Mathlib.Omega.{arith}
 use Rattle.reading.proofs.entries.before.Statement.{statement}
 use Rattle.reading.proofs.entries.before.Tie as tie
-use Rattle.reading.proofs.entries.before.Reads as reads
-use Rattle.reading.proofs.entries.before.Lts as lts
-use Rattle.reading.proofs.slots.slot.Reads as slot-reads
-use Rattle.reading.proofs.slots.slot_control.Reads as slot-control-reads
 
--- src/entries.rt:35:33
 add-slot : tie.Need-add-slot
 add-slot c = omega (arith, entry-low _ _ _ (c .before .pre .1) (c .before .pre .0))
 
--- src/entries.rt:35:18
 slot-requires : tie.Need-slot-requires
 slot-requires c κs = (c .before .pre .0, entry-is-place _ _ _ (c .before .pre .1), entry-index _ _ _ (c .before .pre .1))
 
--- src/entries.rt:35:5
 slot-control-requires : tie.Need-slot-control-requires
 slot-control-requires c κs = control-fits _ (c .before .before .pre .0) _ _ _ (c .slot .ensures)
 
--- src/entries.rt:31:1
 returns : tie.Need-returns
 returns c = before-out _ _ _ _ (c .before .slot .ensures) _ (c .slot-control .ensures)
 

@@ -2,23 +2,16 @@ use Rattle.reading.proofs.StateReads.{entry-is-place, entry-index, entr
 use native.Mathlib.Omega.{arith}
 use Rattle.reading.proofs.entries.kind.Statement.{statement}
 use Rattle.reading.proofs.entries.kind.Tie as tie
-use Rattle.reading.proofs.entries.kind.Reads as reads
-use Rattle.reading.proofs.entries.kind.Lts as lts
-use Rattle.reading.proofs.slots.slot.Reads as slot-reads
 
--- src/entries.rt:19:20
 add-slot : tie.Need-add-slot
 add-slot c = omega (arith, entry-low _ _ _ (c .before .pre .1) (c .before .pre .0))
 
--- src/entries.rt:19:5
 slot-requires : tie.Need-slot-requires
 slot-requires c κs = (c .before .pre .0, entry-is-place _ _ _ (c .before .pre .1), entry-index _ _ _ (c .before .pre .1))
 
--- src/entries.rt:19:5
 shared-slice-read-result : tie.Need-shared-slice-read-result
 shared-slice-read-result c = omega (arith, head-of _ (c .before .before .before .pre .0) _ _ _ (c .before .slot .ensures))
 
--- src/entries.rt:15:1
 returns : tie.Need-returns
 returns c = kind-out _ _ _ _ (c .before .slot .ensures)
 

@@ -3,29 +3,19 @@ use native.Mathlib.Omega.{arith}
 use borrow.Author.Needs.{needs}
 use Rattle.reading.proofs.entries.queue_before.Statement.{statement}
 use Rattle.reading.proofs.entries.queue_before.Tie as tie
-use Rattle.reading.proofs.entries.queue_before.Reads as reads
-use Rattle.reading.proofs.entries.queue_before.Lts as lts
-use Rattle.reading.proofs.slots.slot.Reads as slot-reads
-use Rattle.reading.proofs.slots.slot_names.Reads as slot-names-reads
-use Rattle.reading.proofs.state.most_words.Reads as most-words-reads
 
--- src/entries.rt:43:31
 add-slot : tie.Need-add-slot
 add-slot c = omega (arith, entry-low _ _ _ (c .before .pre .1) (c .before .pre .0))
 
--- src/entries.rt:43:16
 slot-requires : tie.Need-slot-requires
 slot-requires c κs = (c .before .pre .0, entry-is-place _ _ _ (c .before .pre .1), entry-index _ _ _ (c .before .pre .1))
 
--- src/entries.rt:43:39
 most-words-requires : tie.Need-most-words-requires
 most-words-requires c κs = search needs
 
--- src/entries.rt:43:5
 slot-names-requires : tie.Need-slot-names-requires
 slot-names-requires c κs = names-fit _ (c .before .before .before .pre .0) _ _ _ (c .before .slot .ensures) _ (c .most-words .ensures)
 
--- src/entries.rt:39:1
 returns : tie.Need-returns
 returns c = queue-before-out _ _ _ _ (c .before .before .slot .ensures) _ _ (c .before .most-words .ensures) (c .slot-names .ensures)
 

@@ -5,34 +5,25 @@ use lib.ListN.{take, drop, getD}
 use borrow.Author.Needs.{needs}
 use Rattle.reading.proofs.slots.slot_control.Statement.{statement}
 use Rattle.reading.proofs.slots.slot_control.Tie as tie
-use Rattle.reading.proofs.slots.slot_control.Reads as reads
-use Rattle.reading.proofs.slots.slot_control.Lts as lts
 
--- src/slots.rt:29:34
 shared-slice-read-result : tie.Need-shared-slice-read-result
 shared-slice-read-result c = search needs
 
--- src/slots.rt:29:34
 cast-result : tie.Need-cast-result
 cast-result c = search needs
 
--- src/slots.rt:29:22
 add-result : tie.Need-add-result
 add-result c = search needs
 
--- src/slots.rt:29:5
 sub-result : tie.Need-sub-result
 sub-result c = search needs
 
--- src/slots.rt:29:5
 part-result-start : tie.Need-part-result-start
 part-result-start c = search needs
 
--- src/slots.rt:29:5
 part-result-end : tie.Need-part-result-end
 part-result-end c = search needs
 
--- src/slots.rt:25:1
 returns : tie.Need-returns
 returns c = let same : 8 + getD (c .before .before .args .slot .now) 1 0 - 8 ≡ getD (c .before .before .args .slot .now) 1 0 = omega arith in ap (λ (n : ℕ). take n (drop 8 (c .before .before .args .slot .now))) same
 

@@ -5,46 +5,34 @@ use lib.ListN.{take, drop, getD}
 use borrow.Author.Needs.{needs}
 use Rattle.reading.proofs.slots.slot_names.Statement.{statement}
 use Rattle.reading.proofs.slots.slot_names.Tie as tie
-use Rattle.reading.proofs.slots.slot_names.Reads as reads
-use Rattle.reading.proofs.slots.slot_names.Lts as lts
 
--- src/slots.rt:37:11
 add-result : tie.Need-add-result
 add-result c = search needs
 
--- src/slots.rt:37:30
 add-result-2 : tie.Need-add-result-2
 add-result-2 c = search needs
 
--- src/slots.rt:37:50
 shared-slice-read-result : tie.Need-shared-slice-read-result
 shared-slice-read-result c = search needs
 
--- src/slots.rt:37:50
 cast-result : tie.Need-cast-result
 cast-result c = search needs
 
--- src/slots.rt:37:30
 add-result-3 : tie.Need-add-result-3
 add-result-3 c = search needs
 
--- src/slots.rt:37:5
 mul-result : tie.Need-mul-result
 mul-result c = search needs
 
--- src/slots.rt:37:5
 sub-result : tie.Need-sub-result
 sub-result c = search needs
 
--- src/slots.rt:37:5
 part-result-start : tie.Need-part-result-start
 part-result-start c = search needs
 
--- src/slots.rt:37:5
 part-result-end : tie.Need-part-result-end
 part-result-end c = search needs
 
--- src/slots.rt:33:1
 returns : tie.Need-returns
 returns c = let w = c .before .before .args .words in let x = c .before .before .args .slot .now in let same : 8 + w + getD x 4 0 - (8 + w) ≡ getD x 4 0 = omega arith in ap (λ (n : ℕ). take n (drop (8 + w) x)) same
 

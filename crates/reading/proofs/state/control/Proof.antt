@@ -1,21 +1,13 @@
 use Rattle.reading.proofs.StateReads.{first-slot, control-fits, control-out}
-use native.Mathlib.Omega.{arith}
 use Rattle.reading.proofs.state.control.Statement.{statement}
 use Rattle.reading.proofs.state.control.Tie as tie
-use Rattle.reading.proofs.state.control.Reads as reads
-use Rattle.reading.proofs.state.control.Lts as lts
-use Rattle.reading.proofs.slots.slot.Reads as slot-reads
-use Rattle.reading.proofs.slots.slot_control.Reads as slot-control-reads
 
--- src/state.rt:62:18
 slot-requires : tie.Need-slot-requires
 slot-requires c κs = (c .before .pre .0, c .before .pre .1, first-slot _)
 
--- src/state.rt:62:5
 slot-control-requires : tie.Need-slot-control-requires
 slot-control-requires c κs = control-fits _ (c .before .before .pre .0) _ _ _ (c .slot .ensures)
 
--- src/state.rt:58:1
 returns : tie.Need-returns
 returns c = control-out _ _ _ (c .before .slot .ensures) _ (c .slot-control .ensures)
 

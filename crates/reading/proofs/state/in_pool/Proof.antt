@@ -3,27 +3,19 @@ use Rattle.reading.proofs.StateReads.{first-slot, no-place, is-place, h
 use native.Mathlib.Omega.{arith}
 use Rattle.reading.proofs.state.in_pool.Statement.{statement}
 use Rattle.reading.proofs.state.in_pool.Tie as tie
-use Rattle.reading.proofs.state.in_pool.Reads as reads
-use Rattle.reading.proofs.state.in_pool.Lts as lts
-use Rattle.reading.proofs.slots.slot.Reads as slot-reads
 
--- src/state.rt:51:8
 shared-slice-read-if1 : tie.Need-shared-slice-read-if1
 shared-slice-read-if1 c = omega (arith, head-in _ (c .before .before .pre))
 
--- src/state.rt:52:9
 returns : tie.Need-returns
 returns c = no-place _ _ (c .if1 .taken)
 
--- src/state.rt:54:5
 slot-requires : tie.Need-slot-requires
 slot-requires c κs = (c .before .before .before .pre, is-place _ _ (omega arith), first-slot _)
 
--- src/state.rt:54:5
 shared-slice-read-result : tie.Need-shared-slice-read-result
 shared-slice-read-result c = omega (arith, head-of _ (c .before .before .before .before .before .pre) _ _ _ (c .before .slot .ensures))
 
--- src/state.rt:47:1
 returns-2 : tie.Need-returns-2
 returns-2 c = live-out _ _ _ (c .before .slot .ensures)
 

@@ -3,18 +3,13 @@ use Rattle.reading.proofs.StateReads.{words-out}
 use native.Mathlib.Omega.{arith}
 use Rattle.reading.proofs.state.most_words.Statement.{statement}
 use Rattle.reading.proofs.state.most_words.Tie as tie
-use Rattle.reading.proofs.state.most_words.Reads as reads
-use Rattle.reading.proofs.state.most_words.Lts as lts
 
--- src/state.rt:35:5
 shared-slice-read-result : tie.Need-shared-slice-read-result
 shared-slice-read-result c = omega (arith, head-in _ (c .before .pre))
 
--- src/state.rt:35:5
 cast-result : tie.Need-cast-result
 cast-result c = omega (arith, c .shared-slice-known .given 2)
 
--- src/state.rt:31:1
 returns : tie.Need-returns
 returns c = words-out _
 

@@ -3,18 +3,13 @@ use Rattle.reading.proofs.StateReads.{places-out}
 use native.Mathlib.Omega.{arith}
 use Rattle.reading.proofs.state.places.Statement.{statement}
 use Rattle.reading.proofs.state.places.Tie as tie
-use Rattle.reading.proofs.state.places.Reads as reads
-use Rattle.reading.proofs.state.places.Lts as lts
 
--- src/state.rt:21:5
 shared-slice-read-result : tie.Need-shared-slice-read-result
 shared-slice-read-result c = omega (arith, head-in _ (c .before .pre))
 
--- src/state.rt:21:5
 cast-result : tie.Need-cast-result
 cast-result c = omega (arith, c .shared-slice-known .given 0)
 
--- src/state.rt:17:1
 returns : tie.Need-returns
 returns c = places-out _
 

@@ -4,34 +4,25 @@ use native.Mathlib.Omega.{arith}
 use borrow.Author.Needs.{needs}
 use Rattle.reading.proofs.state.program.Statement.{statement}
 use Rattle.reading.proofs.state.program.Tie as tie
-use Rattle.reading.proofs.state.program.Reads as reads
-use Rattle.reading.proofs.state.program.Lts as lts
 
--- src/state.rt:43:25
 shared-slice-read-result : tie.Need-shared-slice-read-result
 shared-slice-read-result c = omega (arith, head-in _ (c .before .pre))
 
--- src/state.rt:43:25
 cast-result : tie.Need-cast-result
 cast-result c = omega (arith, c .shared-slice-known .given 3)
 
--- src/state.rt:43:18
 add-result : tie.Need-add-result
 add-result c = omega (arith, module-in _ (c .before .pre))
 
--- src/state.rt:43:5
 sub-result : tie.Need-sub-result
 sub-result c = search needs
 
--- src/state.rt:43:5
 part-result-start : tie.Need-part-result-start
 part-result-start c = search needs
 
--- src/state.rt:43:5
 part-result-end : tie.Need-part-result-end
 part-result-end c = omega (arith, module-in _ (c .before .pre))
 
--- src/state.rt:39:1
 returns : tie.Need-returns
 returns c = module-out _
 

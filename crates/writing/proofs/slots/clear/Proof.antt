@@ -1,0 +1,26 @@
+use Rattle.writing.proofs.SlotCode.{zero-filled}
+use borrow.Author.Needs.{needs}
+use Rattle.writing.proofs.slots.clear.Statement.{statement}
+use Rattle.writing.proofs.slots.clear.Tie as tie
+use Rattle.writing.proofs.slots.clear.Reads as reads
+use Rattle.writing.proofs.slots.clear.Lts as lts
+use Rattle.store.proofs.fill.fill.Reads as fill-reads
+
+-- src/slots.rt:87:16
+slice-aggregate-fill : tie.Need-slice-aggregate-fill
+slice-aggregate-fill c = search needs
+
+-- src/slots.rt:87:5
+fill-requires : tie.Need-fill-requires
+fill-requires c κs = search needs
+
+-- src/slots.rt:83:1
+same-length : tie.Need-same-length
+same-length c = search needs
+
+-- src/slots.rt:83:1
+returns : tie.Need-returns
+returns c = zero-filled _ _ (c .before .before .fill .ensures)
+
+pub clear-spec : {M : Type 1} → statement M
+clear-spec = tie.close (tie.spec slice-aggregate-fill fill-requires same-length returns)

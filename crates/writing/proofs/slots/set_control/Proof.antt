@@ -1,0 +1,61 @@
+use Prim.Native.Nat.{_+_, _-_}
+use lib.ListN.{length}
+use Rattle.writing.proofs.SlotCode.{control-written, run-same}
+use borrow.Author.Needs.{needs}
+use Rattle.writing.proofs.slots.set_control.Statement.{statement}
+use Rattle.writing.proofs.slots.set_control.Tie as tie
+use Rattle.writing.proofs.slots.set_control.Reads as reads
+use Rattle.writing.proofs.slots.set_control.Lts as lts
+use Rattle.store.proofs.fill.fill.Reads as fill-reads
+
+-- src/slots.rt:16:15
+cast-slot : tie.Need-cast-slot
+cast-slot c = search needs
+
+-- src/slots.rt:16:5
+slice-write-slot : tie.Need-slice-write-slot
+slice-write-slot c = search needs
+
+-- src/slots.rt:17:15
+add-end : tie.Need-add-end
+add-end c = search needs
+
+-- src/slots.rt:18:10
+sub-fill : tie.Need-sub-fill
+sub-fill c = search needs
+
+-- src/slots.rt:18:10
+part-fill-start : tie.Need-part-fill-start
+part-fill-start c = search needs
+
+-- src/slots.rt:18:10
+part-fill-end : tie.Need-part-fill-end
+part-fill-end c = search needs
+
+-- src/slots.rt:18:5
+fill-requires : tie.Need-fill-requires
+fill-requires c κs = search needs
+
+-- src/slots.rt:12:1
+same-length : tie.Need-same-length
+same-length c =
+    let S = c .before .before .before .before .before .before in
+    run-same (S .args .slot .now) (c .before .before .fill .last .0) 8 (8 + S .args .words - 8) 1 (length (S .args .control .now)) (c .before .before .fill .kept .0)
+
+-- src/slots.rt:12:1
+returns : tie.Need-returns
+returns c = control-written _ _ _ _ (c .before .before .before .before .before .before .pre) (c .before .before .fill .ensures)
+
+pub set-control-spec : {M : Type 1} → statement M
+set-control-spec =
+    tie.close
+    (tie.spec
+    cast-slot
+    slice-write-slot
+    add-end
+    sub-fill
+    part-fill-start
+    part-fill-end
+    fill-requires
+    same-length
+    returns)

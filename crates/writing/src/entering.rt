@@ -1,0 +1,124 @@
+// An entry more.
+use crate::slots::begin;
+use crate::slots::copy_slot;
+use crate::slots::drop_name;
+use crate::slots::set_control;
+use crate::spans::locate;
+use reading::state::entry_count;
+use store::layout::REC;
+use store::layout::SLOT_HEAD;
+use store::layout::SPAWN;
+ghost use mathlib.Core.Path.{_≡_};
+ghost use Rattle.store.specs.Image.{IsImage};
+ghost use Rattle.reading.specs.Reads.{OfState};
+ghost use Rattle.writing.specs.Slots.{grownWords, tookWords, controlled, without, GrowRoom, TakeRoom, InRoom};
+ghost use Rattle.writing.specs.Writes.{Leads, Enters, Takes, Spawns, CanGrow, CanTake, CanSpawn};
+
+// The present, which stands at `from`, becomes the entry at `to` without its queue, and the next control comes.
+fn grow(
+    store: &mut [u32],
+    from: usize,
+    end: usize,
+    to: usize,
+    words: usize,
+    kind: u32,
+    number: u32,
+    next: &[u32],
+)
+    requires { ⌜ GrowRoom from «end» to words (now next) (now store) ⌝ }
+    ensures { λ _. ⌜ now (store .exit) ≡ grownWords from «end» to words kind number (now (next .entry)) (now (store .entry)) ⌝ }
+{
+    copy_slot(store, from, to, SLOT_HEAD + words, kind, number, 0);
+    set_control(&mut store[from..end], words, next);
+}
+
+// p makes an entry that is neither a rec nor a spawn, and its next control comes.
+pub fn enter(store: &mut [u32], p: usize, kind: u32, number: u32, next: &[u32])
+    requires { ⌜ IsImage (now store) × OfState (now store) (CanGrow p (now next)) ⌝ }
+    ensures { λ _. ⌜ Leads (now (store .entry)) (now (store .exit)) (Enters p kind number (now (next .entry))) ⌝ }
+{
+    let count = entry_count(store, p);
+    let present = locate(store, p, 0);
+    let made = locate(store, p, count + 1);
+    grow(
+        store,
+        present.from,
+        present.end,
+        made.from,
+        present.words,
+        kind,
+        number,
+        next,
+    );
+}
+
+// The present without the name at a place, and with the next control.
+fn take_out(slot: &mut [u32], words: usize, place: usize, next: &[u32])
+    requires { ⌜ InRoom words place (now next) (now slot) ⌝ }
+    ensures { λ _. ⌜ now (slot .exit) ≡ controlled words (now (next .entry)) (without words place (now (slot .entry))) ⌝ }
+{
+    drop_name(slot, words, place);
+    set_control(slot, words, next);
+}
+
+// The present, which stands at `from`, becomes the entry at `to` with its queue; the name at a place goes and the next control comes.
+fn take(
+    store: &mut [u32],
+    from: usize,
+    end: usize,
+    to: usize,
+    words: usize,
+    place: usize,
+    next: &[u32],
+)
+    requires { ⌜ TakeRoom from «end» to words place (now next) (now store) ⌝ }
+    ensures { λ _. ⌜ now (store .exit) ≡ tookWords from «end» to words place (now (next .entry)) (now (store .entry)) ⌝ }
+{
+    let at = from + 4;
+    let queued = store[at];
+    copy_slot(store, from, to, end - from, REC, place as u32, queued);
+    take_out(&mut store[from..end], words, place, next);
+}
+
+// p receives the message at a place of its queue.
+pub fn receive(store: &mut [u32], p: usize, place: usize, next: &[u32])
+    requires { ⌜ IsImage (now store) × OfState (now store) (CanGrow p (now next)) × OfState (now store) (CanTake p place) ⌝ }
+    ensures { λ _. ⌜ Leads (now (store .entry)) (now (store .exit)) (Takes p place (now (next .entry))) ⌝ }
+{
+    let count = entry_count(store, p);
+    let present = locate(store, p, 0);
+    let made = locate(store, p, count + 1);
+    take(
+        store,
+        present.from,
+        present.end,
+        made.from,
+        present.words,
+        place,
+        next,
+    );
+}
+
+// p spawns a process into place f.
+pub fn bear(store: &mut [u32], p: usize, f: usize, next: &[u32], first: &[u32])
+    requires { ⌜ IsImage (now store) × OfState (now store) (CanGrow p (now next)) × OfState (now store) (CanSpawn f (now first)) ⌝ }
+    ensures { λ _. ⌜ Leads (now (store .entry)) (now (store .exit)) (Spawns p f (now (next .entry)) (now (first .entry))) ⌝ }
+{
+    let count = entry_count(store, p);
+    let present = locate(store, p, 0);
+    let made = locate(store, p, count + 1);
+    let child = locate(store, f, 0);
+    let from = child.from;
+    let end = child.end;
+    grow(
+        store,
+        present.from,
+        present.end,
+        made.from,
+        present.words,
+        SPAWN,
+        f as u32,
+        next,
+    );
+    begin(&mut store[from..end], child.words, first);
+}
