@@ -1,12 +1,33 @@
-# What there is to do here. Each target needs the Rattle toolchain (`rt`) and nothing else.
-.PHONY: help run test
+# What there is to do here. Each target needs the Rattle toolchain (`rt`); the viewer a C compiler besides, `outside` Rust's cargo.
+.PHONY: help run test library viewer viewer-test outside speed
 
 help:
-	@echo 'make run    prove the cases of the specification (the program bench joins later)'
-	@echo 'make test   prove every crate, try every must-fail edit, run every program'
+	@echo 'make run          run the program bench on its example'
+	@echo 'make test         prove every crate, run every program, try every must-fail edit'
+	@echo 'make viewer       build viewer/viewer, a terminal viewer in C over the proved library'
+	@echo 'make viewer-test  run the viewer on the tour under the address and undefined-behaviour sanitizers'
+	@echo 'make outside      hold the proved library against an independent implementation in Rust'
+	@echo 'make speed        time each call against that implementation and a plain pass'
 
 run:
-	rt check rules
+	rt check bench_main > /dev/null
+	./target/bin/bench_main < crates/bench_main/stdin
 
 test:
 	bash .ci/run
+
+library:
+	rt staticlib bench
+
+viewer: library
+	$(CC) -std=c11 -O2 -Wall -Wextra -o viewer/viewer viewer/viewer.c target/staticlib/libbench.a
+
+viewer-test: library
+	$(CC) -std=c11 -g -Wall -Wextra -fsanitize=address,undefined -fno-sanitize-recover -o viewer/viewer-checked viewer/viewer.c target/staticlib/libbench.a
+	./viewer/viewer-checked viewer/drives.hex 5 16 64 < viewer/drives.txt > /dev/null
+
+outside: library
+	cd outside && cargo run --release --quiet -- compare
+
+speed: library
+	cd outside && cargo run --release --quiet -- speed
