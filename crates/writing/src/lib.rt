@@ -3,3 +3,4 @@ pub mod entering;
 pub mod posting;
 pub mod slots;
 pub mod spans;
+pub mod undoing;

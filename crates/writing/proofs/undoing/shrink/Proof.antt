@@ -1,0 +1,73 @@
+use Rattle.writing.proofs.SlotCode.{shrink-written}
+use borrow.Author.Needs.{needs}
+use Rattle.writing.proofs.undoing.shrink.Statement.{statement}
+use Rattle.writing.proofs.undoing.shrink.Tie as tie
+use Rattle.writing.proofs.undoing.shrink.Reads as reads
+use Rattle.writing.proofs.undoing.shrink.Lts as lts
+use Rattle.writing.proofs.slots.clear.Reads as clear-reads
+use Rattle.writing.proofs.slots.copy_slot.Reads as copy-slot-reads
+
+-- src/undoing.rt:23:16
+add-from : tie.Need-add-from
+add-from c = search needs
+
+-- src/undoing.rt:24:18
+mul-queued : tie.Need-mul-queued
+mul-queued c = search needs
+
+-- src/undoing.rt:24:18
+slice-read-queued : tie.Need-slice-read-queued
+slice-read-queued c = search needs
+
+-- src/undoing.rt:25:30
+add-copy-slot : tie.Need-add-copy-slot
+add-copy-slot c = search needs
+
+-- src/undoing.rt:25:5
+copy-slot-requires : tie.Need-copy-slot-requires
+copy-slot-requires c κs = search needs
+
+-- src/undoing.rt:26:11
+mul-clear : tie.Need-mul-clear
+mul-clear c = search needs
+
+-- src/undoing.rt:26:11
+sub-clear : tie.Need-sub-clear
+sub-clear c = search needs
+
+-- src/undoing.rt:26:11
+part-clear-start : tie.Need-part-clear-start
+part-clear-start c = search needs
+
+-- src/undoing.rt:26:11
+part-clear-end : tie.Need-part-clear-end
+part-clear-end c = search needs
+
+-- src/undoing.rt:26:5
+clear-requires : tie.Need-clear-requires
+clear-requires c κs = search needs
+
+-- src/undoing.rt:19:1
+same-length : tie.Need-same-length
+same-length c = search needs
+
+-- src/undoing.rt:19:1
+returns : tie.Need-returns
+returns c = shrink-written _ _ _ _ _ _ _ (c .before .before .before .before .before .before .before .before .before .before .pre) (c .before .before .before .before .before .before .copy-slot .kept .0) (c .before .before .before .before .before .before .copy-slot .ensures) (c .before .before .clear .ensures)
+
+pub shrink-spec : {M : Type 1} → statement M
+shrink-spec =
+    tie.close
+    (tie.spec
+    add-from
+    mul-queued
+    slice-read-queued
+    add-copy-slot
+    copy-slot-requires
+    mul-clear
+    sub-clear
+    part-clear-start
+    part-clear-end
+    clear-requires
+    same-length
+    returns)
