@@ -5,11 +5,14 @@ use backward::backward::undeliver;
 use calls::answers::Answer;
 use calls::answers::number;
 use calls::answers::value;
+use forward::commands::deliver;
+use forward::commands::spawn;
+use forward::commands::step;
 use listing::listing::listing;
 use store::load::Loaded;
 use store::load::load;
 ghost use mathlib.Core.Path.{_≡_};
-ghost use Rattle.rules.specs.Commands.{back as backOf, undeliver as undeliverOf};
+ghost use Rattle.rules.specs.Commands.{step as stepOf, spawnInto, deliver as deliverOf, back as backOf, undeliver as undeliverOf};
 ghost use Rattle.rules.specs.Line.{single};
 ghost use Rattle.store.specs.Sizing.{sizesOf};
 ghost use Rattle.calls.specs.Calls.{RequestCall, ListingCall, LoadCall};
@@ -43,6 +46,30 @@ pub extern "C" fn bench_load(
         Loaded::BadSizes => 2,
         Loaded::BadModule(at) => at as u64 * VALUE_PLACE + 1,
     }
+}
+
+// One step of p that isn't a spawn.
+#[no_mangle]
+pub extern "C" fn bench_step(store: &mut [u32], p: u32) -> u64
+    ensures { λ r. ⌜ RequestCall (single (stepOf p)) (now (store .entry)) (returned r (now (store .exit))) ⌝ }
+{
+    pack(step(store, p))
+}
+
+// A spawn of p into place f.
+#[no_mangle]
+pub extern "C" fn bench_spawn(store: &mut [u32], p: u32, f: u32) -> u64
+    ensures { λ r. ⌜ RequestCall (single (spawnInto p f)) (now (store .entry)) (returned r (now (store .exit))) ⌝ }
+{
+    pack(spawn(store, p, f))
+}
+
+// Message s.k comes to the end of its target's queue.
+#[no_mangle]
+pub extern "C" fn bench_deliver(store: &mut [u32], s: u32, k: u32) -> u64
+    ensures { λ r. ⌜ RequestCall (single (deliverOf s k)) (now (store .entry)) (returned r (now (store .exit))) ⌝ }
+{
+    pack(deliver(store, s, k))
 }
 
 // p's newest entry is undone.
