@@ -180,8 +180,8 @@ pub fn sizes(random: &mut Random) -> Sizes {
 
 /// A command that has a fair chance at a state.
 pub fn command(random: &mut Random, s: &State) -> Command {
-    let beyond = usize::from(random.once_in(20));
-    let p = random.below(s.sizes.places + beyond) as u32;
+    let live: Vec<u32> = (0..s.sizes.places as u32).filter(|p| s.pool[*p as usize].is_some()).collect();
+    let p = if random.once_in(12) { random.below(s.sizes.places + 1) as u32 } else { random.pick(&live) };
     match random.below(16) {
         0..=5 => Command::Step(p),
         6 | 7 => Command::Spawn(p, random.below(s.sizes.places + 1) as u32),
