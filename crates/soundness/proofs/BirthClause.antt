@@ -218,7 +218,7 @@ module _ (sizes : Sizes) (l : List ℕ) (formed : WellFormedStore l) (same : siz
   past-dead q h = ap isLive (read-past sizes l q h)
 
   -- the two say the same of every place
-  live-same : (q : ℕ) → getD liveIn q false ≡ isLive (places q)
+  pub live-same : (q : ℕ) → getD liveIn q false ≡ isLive (places q)
   live-same q = elim (decLt q (sizes .places)) [ yes h ↦ live-at q h | no h ↦ live-past q (omega (arith, h)) ∙ sym (past-dead q (omega (arith, h))) ]
 
   -- all children, and how often each is one

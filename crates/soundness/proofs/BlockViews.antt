@@ -74,11 +74,11 @@ module _ (sizes : Sizes) where
   entriesIn b = chop (sizes .entries) size (drop size b)
 
   module _ (b : List ℕ) (long : length b ≡ blockSize sizes) (well : WellSlots sizes (slotCount sizes) b) where
-    read-free : getD b 0 0 ≡ kindFree → readBlock sizes b ≡ []
+    pub read-free : getD b 0 0 ≡ kindFree → readBlock sizes b ≡ []
     unfolding readBlock chop leading readSlot
     read-free k = cond-true [] (readSlot sizes (take size b) ∷ leading (map (readSlot sizes) (entriesIn b))) (eqb-of (getD (take size b) 0 0) kindFree (kind-take b ∙ k))
 
-    read-used : ¬ (getD b 0 0 ≡ kindFree) → readBlock sizes b ≡ readSlot sizes (take size b) ∷ leading (map (readSlot sizes) (entriesIn b))
+    pub read-used : ¬ (getD b 0 0 ≡ kindFree) → readBlock sizes b ≡ readSlot sizes (take size b) ∷ leading (map (readSlot sizes) (entriesIn b))
     unfolding readBlock chop leading readSlot
     read-used k = cond-false [] (readSlot sizes (take size b) ∷ leading (map (readSlot sizes) (entriesIn b))) (eqb-apart (getD (take size b) 0 0) kindFree (λ q. k (sym (kind-take b) ∙ q)))
 

@@ -37,11 +37,11 @@ begins-of : (xs ys : List ℕ) → Begins xs ys → begins xs ys ≡ true
 begins-of xs ys b = ap (begins xs) (b .whole) ∙ begins-front xs (b .others)
 
 -- a rec, and another entry
-flows-at-rec : (x : Slot) (acc : List Slot) (names : List ℕ) → eqb (x .kind) kindRec ≡ true → (SlotFlows (x ∷ acc) names ≡ (Begins (leftNames x) names × SlotFlows acc (x .names)))
+pub flows-at-rec : (x : Slot) (acc : List Slot) (names : List ℕ) → eqb (x .kind) kindRec ≡ true → (SlotFlows (x ∷ acc) names ≡ (Begins (leftNames x) names × SlotFlows acc (x .names)))
 unfolding SlotFlows
 flows-at-rec x acc names e = ap (λ (b : Bool). elim b [ false ↦ SlotFlows acc names | true ↦ Begins (leftNames x) names × SlotFlows acc (x .names) ]) e
 
-flows-at-other : (x : Slot) (acc : List Slot) (names : List ℕ) → eqb (x .kind) kindRec ≡ false → SlotFlows (x ∷ acc) names ≡ SlotFlows acc names
+pub flows-at-other : (x : Slot) (acc : List Slot) (names : List ℕ) → eqb (x .kind) kindRec ≡ false → SlotFlows (x ∷ acc) names ≡ SlotFlows acc names
 unfolding SlotFlows
 flows-at-other x acc names e = ap (λ (b : Bool). elim b [ false ↦ SlotFlows acc names | true ↦ Begins (leftNames x) names × SlotFlows acc (x .names) ]) e
 

@@ -12,3 +12,11 @@ pub mod Occurring
 pub mod BirthClause
 pub mod ArrivalMarks
 pub mod ArrivalClause
+pub mod SendTest
+pub mod StoreTest
+pub mod WholeLaws
+pub mod SlotsInUse
+pub mod PlaceClause
+pub mod SendClause
+pub mod SlotsDecided
+pub mod SoundDecided

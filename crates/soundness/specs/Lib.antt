@@ -1,1 +1,3 @@
 pub mod SoundTests
+pub mod SendTests
+pub mod StoreTests

@@ -1,0 +1,195 @@
+-- `soundness::sound_sends::note_place` meets its contract.
+use Prim.Native.Nat.{ℕ, _+_, _≤_}
+use mathlib.Core.Path.{_≡_, refl, sym, _∙_, subst}
+use mathlib.Core.List.{List}
+use native.Mathlib.Omega.{arith}
+use denote.Ref.{now}
+use lib.ListN.{length, length-set}
+use lib.Seq.{length-take-le}
+use borrow.Author.Needs.{needs}
+use Rattle.lists.specs.Lists.{All}
+use Rattle.lists.proofs.Blocks.{chop}
+use Rattle.store.specs.Layout.{slotHead}
+use Rattle.soundness.specs.SoundTests.{ControlFits, Slots}
+use Rattle.soundness.proofs.SoundTestWalk.{behind, behind-short, slots-behind, slot-in, head-in, slots-next, each-first, each-next}
+use Rattle.soundness.proofs.SendTest.{Noting, noting-start, noting-none, noting-one, noting-bad, noting-done}
+use Rattle.soundness.proofs.sound_sends.note_place.Statement.{statement}
+use Rattle.soundness.proofs.sound_sends.note_place.Tie as tie
+use Rattle.soundness.proofs.sound_sends.note_place.Reads as reads
+use Rattle.soundness.proofs.sound_sends.note_place.Lts as lts
+use Rattle.soundness.proofs.sound_sends.slot_sends.Reads as slot-sends-reads
+
+abbrev Inv-loop : tie.InvT-loop
+Inv-loop block count size live at targets₀ t₀ left₀ k₀ targets t left k =
+    Slots 0 size left t × (length t ≤ length block) × All ControlFits (chop left size t) × (length targets ≡ length targets₀) × (k + left ≤ at + count) × Noting live size count at block targets₀ left k t targets
+
+abbrev μ-loop : tie.MeasureT-loop
+μ-loop block count size live at targets₀ t₀ left₀ k₀ targets t left k = left
+
+-- in a turn: a slot is left, and it lies within t with its head
+facts : (c : tie.In-loop Inv-loop μ-loop) → (c .before .before .before .before .before .before .args .size ≤ length (c .before .loop .t .now)) × (slotHead + 0 ≤ c .before .before .before .before .before .before .args .size)
+facts c =
+    let l = c .before .loop in
+    let a = c .before .before .before .before .before .before .args in
+    (slot-in 0 (a .size) (l .left) (l .t .now) (l .inv .0) (c .loop-test .taken), head-in 0 (a .size) (l .left) (l .t .now) (l .inv .0) (c .loop-test .taken))
+
+-- src/sound_sends.rt:55:17
+mul-t : tie.Need-mul-t Inv-loop μ-loop
+mul-t c = search needs
+
+-- src/sound_sends.rt:55:17
+sub-t : tie.Need-sub-t Inv-loop μ-loop
+sub-t c = search needs
+
+-- src/sound_sends.rt:55:17
+part-t-start : tie.Need-part-t-start Inv-loop μ-loop
+part-t-start c = search needs
+
+-- src/sound_sends.rt:55:17
+part-t-end : tie.Need-part-t-end Inv-loop μ-loop
+part-t-end c = search needs
+
+-- src/sound_sends.rt:58:5
+loop-holds : tie.Need-loop-holds Inv-loop μ-loop
+loop-holds c =
+    let a = c .before .before .before .before .args in
+    let pre = c .before .before .before .before .pre in
+    (slots-behind 0 (a .size) (a .count) (a .block .now) (pre .2), behind-short (a .size) (a .block .now), subst (λ (r : List ℕ). All ControlFits (chop (a .count) (a .size) r)) (sym (behind (a .size) (a .block .now))) (pre .3), refl, omega arith, noting-start (now (a .live)) (a .size) (a .count) (a .at) (a .block .now) (a .targets .now))
+
+-- src/sound_sends.rt:59:30
+slice-aggregate-slot-sends : tie.Need-slice-aggregate-slot-sends Inv-loop μ-loop
+slice-aggregate-slot-sends c = sym (length-take-le _ _ (let f = facts (c .before) in omega (arith, f .0, f .1)))
+
+-- src/sound_sends.rt:59:13
+slot-sends-requires : tie.Need-slot-sends-requires Inv-loop μ-loop
+slot-sends-requires c κs =
+    let s = c .before .before .before .before .before .before .before in
+    let l = c .before .before .loop in
+    (each-first ControlFits (l .left) (s .args .size) (l .t .now) (l .inv .2) (c .before .loop-test .taken), (let f = facts (c .before) in let h = s .pre .1 in omega (arith, f .0, length-take-le (s .args .size) (l .t .now) (f .0))))
+
+-- src/sound_sends.rt:60:13
+mul-t-2 : tie.Need-mul-t-2 Inv-loop μ-loop
+mul-t-2 c = let f = facts (c .before .before) in omega (arith, f .0, f .1)
+
+-- src/sound_sends.rt:60:13
+sub-t-2 : tie.Need-sub-t-2 Inv-loop μ-loop
+sub-t-2 c = let f = facts (c .before .before) in omega (arith, f .0, f .1)
+
+-- src/sound_sends.rt:60:13
+part-t-start-2 : tie.Need-part-t-start-2 Inv-loop μ-loop
+part-t-start-2 c = let f = facts (c .before .before) in omega (arith, f .0, f .1)
+
+-- src/sound_sends.rt:60:13
+part-t-end-2 : tie.Need-part-t-end-2 Inv-loop μ-loop
+part-t-end-2 c = let f = facts (c .before .before) in omega (arith, f .0, f .1)
+
+-- src/sound_sends.rt:61:9
+sub-left : tie.Need-sub-left Inv-loop μ-loop
+sub-left c = search needs
+
+-- src/sound_sends.rt:63:26
+enum-told : tie.Need-enum-told Inv-loop μ-loop
+enum-told c = search needs
+
+-- src/sound_sends.rt:63:26
+same-length : tie.Need-same-length Inv-loop μ-loop
+same-length c = search needs
+
+-- src/sound_sends.rt:63:26
+returns : tie.Need-returns Inv-loop μ-loop
+returns c =
+    let a = c .before .before .before .before .before .before .before .before .before .before .before .args in
+    let l = c .before .before .before .before .before .before .loop in
+    noting-bad (now (a .live)) (a .size) (a .count) (a .at) (a .block .now) (a .targets .now) (l .left) (l .k) (l .t .now) (l .targets) (l .inv .5) _ (c .before .before .before .slot-sends .ensures) (c .before .before .before .before .before .loop-test .taken) _ (c .enum-told .given .1)
+
+enum-told-2 : tie.Need-enum-told-2 Inv-loop μ-loop
+enum-told-2 c = search needs
+
+-- src/sound_sends.rt:58:5
+loop-less : tie.Need-loop-less Inv-loop μ-loop
+loop-less c = search needs
+
+-- src/sound_sends.rt:58:5
+loop-again : tie.Need-loop-again Inv-loop μ-loop
+loop-again c =
+    let a = c .before .before .before .before .before .before .before .before .before .before .before .args in
+    let l = c .before .before .before .before .before .before .loop in
+    let some = c .before .before .before .before .before .loop-test .taken in
+    (slots-next 0 (a .size) (l .left) (l .t .now) (l .inv .0) some, (let s = behind-short (a .size) (l .t .now) in omega (arith, l .inv .1)), each-next ControlFits (l .left) (a .size) (l .t .now) (l .inv .2) some, l .inv .3, omega (arith, l .inv .4, some), noting-none (now (a .live)) (a .size) (a .count) (a .at) (a .block .now) (a .targets .now) (l .left) (l .k) (l .t .now) (l .targets) (l .inv .5) _ (c .before .before .before .slot-sends .ensures) some (c .enum-told2 .given .1))
+
+-- src/sound_sends.rt:65:22
+enum-known-one : tie.Need-enum-known-one Inv-loop μ-loop
+enum-known-one c = search needs
+
+-- src/sound_sends.rt:66:30
+add-targets : tie.Need-add-targets Inv-loop μ-loop
+add-targets c = let h = c .before .before .before .before .slot-sends .ensures .small _ (c .before .one .given .1) in let p = c .before .before .before .before .before .before .before .before .before .before .before .before .pre .4 in record { fits = omega arith }
+
+-- src/sound_sends.rt:66:17
+mul-targets : tie.Need-mul-targets Inv-loop μ-loop
+mul-targets c = let p = c .before .before .before .before .before .before .before .before .before .before .before .before .pre .5 in let l = c .before .before .before .before .before .before .before .loop in omega (arith, l .inv .3, l .inv .4, c .before .before .before .before .before .before .loop-test .taken)
+
+-- src/sound_sends.rt:66:17
+slice-write-targets : tie.Need-slice-write-targets Inv-loop μ-loop
+slice-write-targets c = let p = c .before .before .before .before .before .before .before .before .before .before .before .before .pre .5 in let l = c .before .before .before .before .before .before .before .loop in omega (arith, l .inv .3, l .inv .4, c .before .before .before .before .before .before .loop-test .taken)
+
+-- src/sound_sends.rt:67:17
+add-k : tie.Need-add-k Inv-loop μ-loop
+add-k c = let p = c .before .before .before .before .before .before .before .before .before .before .before .before .pre .5 in let l = c .before .before .before .before .before .before .before .loop in omega (arith, l .inv .3, l .inv .4, c .before .before .before .before .before .before .loop-test .taken)
+
+-- src/sound_sends.rt:58:5
+loop-less-2 : tie.Need-loop-less-2 Inv-loop μ-loop
+loop-less-2 c = search needs
+
+-- src/sound_sends.rt:58:5
+loop-again-2 : tie.Need-loop-again-2 Inv-loop μ-loop
+loop-again-2 c =
+    let a = c .before .before .before .before .before .before .before .before .before .before .before .before .args in
+    let l = c .before .before .before .before .before .before .before .loop in
+    let some = c .before .before .before .before .before .before .loop-test .taken in
+    (slots-next 0 (a .size) (l .left) (l .t .now) (l .inv .0) some, (let s = behind-short (a .size) (l .t .now) in omega (arith, l .inv .1)), each-next ControlFits (l .left) (a .size) (l .t .now) (l .inv .2) some, (length-set (l .targets) (l .k) _ ∙ l .inv .3), omega (arith, l .inv .4, some), noting-one (now (a .live)) (a .size) (a .count) (a .at) (a .block .now) (a .targets .now) (l .left) (l .k) (l .t .now) (l .targets) (l .inv .5) _ (c .before .before .before .before .slot-sends .ensures) some _ (c .before .one .given .1))
+
+-- src/sound_sends.rt:44:1
+same-length-2 : tie.Need-same-length-2 Inv-loop μ-loop
+same-length-2 c = search needs
+
+-- src/sound_sends.rt:44:1
+returns-2 : tie.Need-returns-2 Inv-loop μ-loop
+returns-2 c =
+    let a = c .before .before .before .before .before .before .args in
+    let l = c .before .loop in
+    noting-done (now (a .live)) (a .size) (a .count) (a .at) (a .block .now) (a .targets .now) (l .left) (l .k) (l .t .now) (l .targets) (l .inv .5) (c .loop-test .left)
+
+pub note-place-spec : {M : Type 1} → statement M
+note-place-spec =
+    tie.close
+    (tie.spec
+    Inv-loop
+    μ-loop
+    mul-t
+    sub-t
+    part-t-start
+    part-t-end
+    loop-holds
+    slice-aggregate-slot-sends
+    slot-sends-requires
+    mul-t-2
+    sub-t-2
+    part-t-start-2
+    part-t-end-2
+    sub-left
+    enum-told
+    same-length
+    returns
+    enum-told-2
+    loop-less
+    loop-again
+    enum-known-one
+    add-targets
+    mul-targets
+    slice-write-targets
+    add-k
+    loop-less-2
+    loop-again-2
+    same-length-2
+    returns-2)

@@ -1,0 +1,100 @@
+// Sends: the target of each send by its sender and count, every target live.
+use step::work::Doing;
+use step::work::about_to;
+use store::layout::SEND;
+use store::layout::SLOT_HEAD;
+ghost use mathlib.Core.Path.{_≡_};
+ghost use Prim.Native.Nat.{_+_, _*_, _≤_, _<_};
+ghost use lib.ListN.{length, drop};
+ghost use Rattle.lists.specs.Lists.{All};
+ghost use Rattle.lists.proofs.Blocks.{chop};
+ghost use Rattle.soundness.specs.SoundTests.{ControlFits, Slots, ControlBlock};
+ghost use Rattle.soundness.specs.SendTests.{SentIs, NotesPlace, NotesPlaces};
+
+// What a slot says of sends: it is none, a send to a live place, or a send that its control is not about to make or to no live place.
+pub enum Sent {
+    No,
+    To(u32),
+    Bad,
+}
+
+// The target of a slot's send.
+fn slot_sends(slot: &[u32], live: &[bool]) -> Sent
+    requires { ⌜ ControlFits (now slot) × (length (now slot) ≤ 65536) ⌝ }
+    ensures { λ r. ⌜ SentIs (now (live .entry)) (now (slot .entry)) r ⌝ }
+{
+    if slot[0] != SEND {
+        return Sent::No;
+    }
+    let doing = about_to(&slot[SLOT_HEAD..SLOT_HEAD + slot[1] as usize]);
+    let Doing::Send(target) = doing else {
+        return Sent::Bad;
+    };
+    let place = target as usize;
+    if live.len() <= place {
+        return Sent::Bad;
+    }
+    if live[place] {
+        return Sent::To(target);
+    }
+    Sent::Bad
+}
+
+// Notes the targets of a place's sends in their order, one more than each, from a place in the table on.
+fn note_place(
+    block: &[u32],
+    count: usize,
+    size: usize,
+    live: &[bool],
+    at: usize,
+    targets: &mut [u32],
+) -> bool
+    requires { ⌜ (size ≤ length (now block)) × (size ≤ 65536) × Slots 0 size count (drop size (now block)) × All ControlFits (chop count size (drop size (now block))) × (length (now live) ≡ 16) × (at + count ≤ length (now targets)) ⌝ }
+    ensures { λ r. ⌜ NotesPlace (now (live .entry)) size count at (now (block .entry)) (now (targets .entry)) (now (targets .exit)) r ⌝ }
+{
+    let mut t = &block[size..];
+    let mut left = count;
+    let mut k = at;
+    while 0 < left {
+        let one = slot_sends(&t[..size], live);
+        t = &t[size..];
+        left -= 1;
+        match one {
+            Sent::Bad => return false,
+            Sent::No => {}
+            Sent::To(target) => {
+                targets[k] = target + 1;
+                k += 1;
+            }
+        }
+    }
+    true
+}
+
+// Notes the targets of all sends, a row of `count` words for each place.
+pub fn note_places(
+    blocks: &[u32],
+    places: usize,
+    len: usize,
+    count: usize,
+    size: usize,
+    live: &[bool],
+    targets: &mut [u32],
+) -> bool
+    requires { ⌜ (length (now blocks) ≡ places * len) × All (ControlBlock size count) (chop places len (now blocks)) × (size ≤ 65536) × (length (now live) ≡ 16) × (places * count ≤ length (now targets)) ⌝ }
+    ensures { λ r. ⌜ NotesPlaces (now (live .entry)) size count (chop places len (now (blocks .entry))) (now (targets .entry)) (now (targets .exit)) r ⌝ }
+{
+    let mut t = blocks;
+    let mut left = places;
+    let mut at = 0;
+    while 0 < left {
+        if note_place(&t[..len], count, size, live, at, targets) {
+            t = &t[len..];
+            left -= 1;
+            at += count;
+        } else {
+            return false;
+        }
+    }
+    true
+}
