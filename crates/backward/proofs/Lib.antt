@@ -1,0 +1,5 @@
+pub mod Newest
+pub mod LeftLaws
+pub mod FlyingLaws
+pub mod HeldLaws
+pub mod AnswerLaws

@@ -1,0 +1,31 @@
+use Rattle.backward.proofs.AnswerLaws.{no-state, a-state, state-answers}
+use borrow.Author.Needs.{needs}
+use Rattle.backward.proofs.backward.undeliver.Statement.{statement}
+use Rattle.backward.proofs.backward.undeliver.Tie as tie
+use Rattle.backward.proofs.backward.undeliver.Reads as reads
+use Rattle.backward.proofs.backward.undeliver.Lts as lts
+use Rattle.backward.proofs.backward.undeliver_held.Reads as undeliver-held-reads
+use Rattle.soundness.proofs.sound.sound.Reads as sound-reads
+
+sound-requires : tie.Need-sound-requires
+sound-requires c κs = search needs
+
+same-length : tie.Need-same-length
+same-length c = search needs
+
+returns : tie.Need-returns
+returns c = no-state _ _ _ (c .before .sound .ensures) (c .if1 .taken)
+
+undeliver-held-requires : tie.Need-undeliver-held-requires
+undeliver-held-requires c κs = a-state _ _ (c .before .before .sound .ensures) (c .before .if1 .left)
+
+same-length-2 : tie.Need-same-length-2
+same-length-2 c = search needs
+
+returns-2 : tie.Need-returns-2
+returns-2 c = state-answers _ _ _ _ (c .before .before .before .before .before .sound .ensures) (c .before .before .before .before .if1 .left) _ (c .before .before .undeliver-held .ensures)
+
+pub undeliver-spec : {M : Type 1} → statement M
+undeliver-spec =
+    tie.close
+    (tie.spec sound-requires same-length returns undeliver-held-requires same-length-2 returns-2)

@@ -1,0 +1,3 @@
+pub mod Packed
+pub mod Positions
+pub mod LoadLaws

@@ -1,0 +1,62 @@
+-- A load's answer as a number.
+use Prim.Native.Nat.{ℕ, _+_, _*_, _≤_, _<_}
+use mathlib.Core.Path.{_≡_, refl, sym, _∙_, ap}
+use mathlib.Core.Logic.{inl, inr}
+use mathlib.Core.Bool.{Bool, true, false, _&&_}
+use mathlib.Core.Option.{Option, none, some}
+use mathlib.Core.List.{List}
+use native.Mathlib.Omega.{arith}
+use lib.Dec.{leb}
+use lib.ListN.{length}
+use Rattle.lists.proofs.Tests.{true-or-false, and-left}
+use Rattle.term.specs.Module.{longestModule, checkModule}
+use Rattle.rules.specs.Answers.{done, badModule, badSizes}
+use Rattle.rules.specs.State.{Sizes}
+use Rattle.rules.specs.Load.{goodSizes, loaded}
+use Rattle.store.specs.Layout.{needed}
+use Rattle.store.specs.Loading.{Outcome, numberOf, valueOf, afterLoad, loadInto, LoadAnswers}
+use Rattle.store.specs.declared.load.Loaded.{Loaded}
+use Rattle.store.specs.declared.load.Loaded.the-variants.{Done, BadSizes, BadModule}
+use Rattle.store.proofs.LoadCodeAnswers.{into-short, into-load, load-refused, load-loads}
+use Rattle.calls.specs.Calls.{outcome, LoadCall}
+use Rattle.calls.specs.Numbers.{valuePlace}
+use Rattle.bench.specs.Exports.{returned}
+use Rattle.bench.proofs.Packed.{returned-is}
+use Rattle.bench.proofs.Positions.{bad-position}
+
+module _ (module′ : List ℕ) (sizes : Sizes) (entry exit : List ℕ) (a : Loaded) (answers : LoadAnswers module′ sizes entry exit a) where
+  returns-as : (r number value : ℕ) → number < valuePlace → r ≡ value * valuePlace + number → number ≡ numberOf a → value ≡ valueOf a → LoadCall module′ sizes entry (returned r exit)
+  unfolding LoadCall
+  returns-as r number value small e n v = returned-is r number value exit small e ∙ (λ j. outcome ((n ∙ answers .number) j) ((v ∙ answers .value) j) (answers .left j))
+
+  pub load-done : a ≡ Done → LoadCall module′ sizes entry (returned 0 exit)
+  unfolding numberOf valueOf
+  load-done is = returns-as 0 0 0 (omega arith) (omega arith) (sym (ap numberOf is)) (sym (ap valueOf is))
+
+  pub load-bad-sizes : a ≡ BadSizes → LoadCall module′ sizes entry (returned 2 exit)
+  unfolding numberOf valueOf
+  load-bad-sizes is = returns-as 2 2 0 (omega arith) (omega arith) (sym (ap numberOf is)) (sym (ap valueOf is))
+
+  -- the position that a load answers is one of the module check
+  into-small : loadInto module′ sizes entry .value ≤ longestModule
+  unfolding afterLoad
+  into-small = elim (true-or-false (goodSizes sizes && leb (needed sizes) (length entry))) [
+    | inl long ↦ go (checkModule module′) refl (and-left _ _ long) long
+    | inr short ↦ omega (arith, ap (λ (o : Outcome). o .value) (into-short module′ sizes entry short))
+  ]
+    where
+      go : (checked : Option ℕ) → checkModule module′ ≡ checked → goodSizes sizes ≡ true → (goodSizes sizes && leb (needed sizes) (length entry)) ≡ true → loadInto module′ sizes entry .value ≤ longestModule
+      go none e good long =
+          let v : loadInto module′ sizes entry .value ≡ 0 = ap (λ (o : Outcome). o .value) (into-load module′ sizes entry long ∙ ap (afterLoad entry) (load-loads module′ sizes entry good e)) in
+          omega arith
+      go (some at) e good long =
+          let v : loadInto module′ sizes entry .value ≡ at = ap (λ (o : Outcome). o .value) (into-load module′ sizes entry long ∙ ap (afterLoad entry) (load-refused module′ sizes entry at good e)) in
+          omega (arith, bad-position module′ at e)
+
+  pub position-small : (at : ℕ) → a ≡ BadModule at → at ≤ longestModule
+  unfolding valueOf
+  position-small at is = omega (arith, into-small, answers .value, ap valueOf is)
+
+  pub load-bad-module : (at : ℕ) → a ≡ BadModule at → LoadCall module′ sizes entry (returned (at * valuePlace + 1) exit)
+  unfolding numberOf valueOf
+  load-bad-module at is = returns-as (at * valuePlace + 1) 1 at (omega arith) refl (sym (ap numberOf is)) (sym (ap valueOf is))

@@ -1,0 +1,2 @@
+// The calls for programs in other languages.
+pub mod exports;

@@ -1,0 +1,58 @@
+use borrow.Author.Needs.{needs}
+use Rattle.lists.proofs.Tests.{not-true, not-false}
+use Rattle.forward.proofs.Made.{entry-large, entry-nothing, entry-done, entry-full, grow-ready, part-length}
+use Rattle.forward.proofs.making.make.Statement.{statement}
+use Rattle.forward.proofs.making.make.Tie as tie
+
+enum-told : tie.Need-enum-told
+enum-told c = search needs
+
+enum-told-2 : tie.Need-enum-told-2
+enum-told-2 c = search needs
+
+enum-known-next : tie.Need-enum-known-next
+enum-known-next c = search needs
+
+has-room-requires : tie.Need-has-room-requires
+has-room-requires c κs = search needs
+
+same-length : tie.Need-same-length
+same-length c = search needs
+
+returns : tie.Need-returns
+returns c = search (entry-full, not-true)
+
+slice-aggregate-enter : tie.Need-slice-aggregate-enter
+slice-aggregate-enter c = search part-length
+
+enter-requires : tie.Need-enter-requires
+enter-requires c κs = search (grow-ready, not-false)
+
+returns-2 : tie.Need-returns-2
+returns-2 c = search entry-nothing
+
+returns-3 : tie.Need-returns-3
+returns-3 c = search entry-large
+
+same-length-2 : tie.Need-same-length-2
+same-length-2 c = search needs
+
+returns-4 : tie.Need-returns-4
+returns-4 c = search (entry-done, not-false)
+
+pub make-spec : {M : Type 1} → statement M
+make-spec =
+    tie.close
+    (tie.spec
+    enum-told
+    enum-told-2
+    enum-known-next
+    has-room-requires
+    same-length
+    returns
+    slice-aggregate-enter
+    enter-requires
+    returns-2
+    returns-3
+    same-length-2
+    returns-4)

@@ -1,0 +1,20 @@
+use borrow.Author.Needs.{needs}
+use Rattle.forward.proofs.NextRows.{child-row-is}
+use Rattle.forward.proofs.Living.{control-short, of-place}
+use Rattle.forward.proofs.next.child_row.Statement.{statement}
+use Rattle.forward.proofs.next.child_row.Tie as tie
+
+control-requires : tie.Need-control-requires
+control-requires c κs = search of-place
+
+child-requires : tie.Need-child-requires
+child-requires c κs = search control-short
+
+same-length : tie.Need-same-length
+same-length c = search needs
+
+returns : tie.Need-returns
+returns c = search child-row-is
+
+pub child-row-spec : {M : Type 1} → statement M
+child-row-spec = tie.close (tie.spec control-requires child-requires same-length returns)

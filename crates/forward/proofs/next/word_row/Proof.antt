@@ -1,0 +1,20 @@
+use borrow.Author.Needs.{needs}
+use Rattle.forward.proofs.NextRows.{word-row-is}
+use Rattle.forward.proofs.Living.{control-short, of-place}
+use Rattle.forward.proofs.next.word_row.Statement.{statement}
+use Rattle.forward.proofs.next.word_row.Tie as tie
+
+control-requires : tie.Need-control-requires
+control-requires c κs = search of-place
+
+word-next-requires : tie.Need-word-next-requires
+word-next-requires c κs = search control-short
+
+same-length : tie.Need-same-length
+same-length c = search needs
+
+returns : tie.Need-returns
+returns c = search word-row-is
+
+pub word-row-spec : {M : Type 1} → statement M
+word-row-spec = tie.close (tie.spec control-requires word-next-requires same-length returns)

@@ -1,0 +1,24 @@
+use borrow.Author.Needs.{needs}
+use Rattle.forward.proofs.Mailing.{taken-row-is, content-short}
+use Rattle.forward.proofs.Living.{control-short, of-place}
+use Rattle.forward.proofs.picking.taken_row.Statement.{statement}
+use Rattle.forward.proofs.picking.taken_row.Tie as tie
+
+control-requires : tie.Need-control-requires
+control-requires c κs = search of-place
+
+content-requires : tie.Need-content-requires
+content-requires c κs = search needs
+
+taken-requires : tie.Need-taken-requires
+taken-requires c κs = search (control-short, content-short)
+
+same-length : tie.Need-same-length
+same-length c = search needs
+
+returns : tie.Need-returns
+returns c = search taken-row-is
+
+pub taken-row-spec : {M : Type 1} → statement M
+taken-row-spec =
+    tie.close (tie.spec control-requires content-requires taken-requires same-length returns)

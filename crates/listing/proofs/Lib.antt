@@ -1,0 +1,5 @@
+pub mod StateLaws
+pub mod ProcessLaws
+pub mod FlightLaws
+pub mod Lengths
+pub mod ListingLaws
