@@ -5,3 +5,8 @@ pub mod LinkTests
 pub mod LinkSearch
 pub mod LinkDown
 pub mod RollbackCalls
+pub mod LinkAdds
+pub mod LinkReads
+pub mod ArrivalReads
+pub mod SpawnReads
+pub mod LinkWhole

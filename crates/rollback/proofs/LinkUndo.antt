@@ -38,7 +38,7 @@ sort (spawn q) = is-spawn refl
 sort self = is-alone self-alone
 sort (check n) = is-alone check-alone
 
-abbrev mark : Kind → ℕ
+abbrev pub mark : Kind → ℕ
 mark seq = 0
 mark (send t v) = 1
 mark (rec a m d) = 2
@@ -51,7 +51,7 @@ alone-mark seq-alone = refl
 alone-mark self-alone = refl
 alone-mark check-alone = refl
 
-send-mark : (kind : Kind) {l : Letter} → asSend kind ≡ some l → mark kind ≡ 1
+pub send-mark : (kind : Kind) {l : Letter} → asSend kind ≡ some l → mark kind ≡ 1
 unfolding asSend
 send-mark seq e = none-not-some e
 send-mark (send t v) e = refl
@@ -60,7 +60,7 @@ send-mark (spawn q) e = none-not-some e
 send-mark self e = none-not-some e
 send-mark (check n) e = none-not-some e
 
-rec-mark : (kind : Kind) {t : Taking} → asRec kind ≡ some t → mark kind ≡ 2
+pub rec-mark : (kind : Kind) {t : Taking} → asRec kind ≡ some t → mark kind ≡ 2
 unfolding asRec
 rec-mark seq e = none-not-some e
 rec-mark (send t v) e = none-not-some e
@@ -69,7 +69,7 @@ rec-mark (spawn q) e = none-not-some e
 rec-mark self e = none-not-some e
 rec-mark (check n) e = none-not-some e
 
-spawn-mark : (kind : Kind) {q : ℕ} → asSpawn kind ≡ some q → mark kind ≡ 3
+pub spawn-mark : (kind : Kind) {q : ℕ} → asSpawn kind ≡ some q → mark kind ≡ 3
 unfolding asSpawn
 spawn-mark seq e = none-not-some e
 spawn-mark (send t v) e = none-not-some e
@@ -80,10 +80,10 @@ spawn-mark (check n) e = none-not-some e
 
 -- ---- one entry stands at one place
 module _ {s : State} {p i : ℕ} {e f : Entry} {g h : List Entry} (st : Stands s p i e g) (st′ : Stands s p i f h) where
-  stands-same : e ≡ f
+  pub stands-same : e ≡ f
   stands-same = some-injective (sym (stands-entry st) ∙ stands-entry st′)
 
-  stands-after : g ≡ h
+  pub stands-after : g ≡ h
   stands-after = sym (stands-older st) ∙ stands-older st′
 
 stands-at : {s : State} {p i j : ℕ} {e : Entry} {g : List Entry} → i ≡ j → Stands s p i e g → Stands s p j e g
@@ -106,7 +106,7 @@ can-at st e (can-send st′ is e′ f) = moved st e st′ e′ (at-send is f)
 can-at st e (can-rec st′ is e′ f) = moved st e st′ e′ (at-rec is f)
 can-at st e (can-spawn st′ is e′ x y f) = moved st e st′ e′ (at-spawn is x y f)
 
-letter-target : {a b : ℕ} {v w : List ℕ} → _≡_ {A = Option Letter} (some (letter a v)) (some (letter b w)) → a ≡ b
+pub letter-target : {a b : ℕ} {v w : List ℕ} → _≡_ {A = Option Letter} (some (letter a v)) (some (letter b w)) → a ≡ b
 letter-target e = cc
 
 -- of a spawn: what the child needs
@@ -116,7 +116,7 @@ record Childless (s : State) (k : Cut) (q : ℕ) : Type 0 where
   unsent : (u j : ℕ) (v : List ℕ) (f : Entry) (h : List Entry) → Stands s u j f h → asSend (f .kind) ≡ some (letter q v) → k (entriesOf u) ≤ j
 
 -- ---- where an event that stays is linked to it, the undo is not accepted
-seen-same : {o : Option Taking} {a d b c : List Message} {m n : Message} (g : List Entry) → o ≡ some (taking a m d) → o ≡ some (taking b n c) → seen a m d g ≡ seen b n c g
+pub seen-same : {o : Option Taking} {a d b c : List Message} {m n : Message} (g : List Entry) → o ≡ some (taking a m d) → o ≡ some (taking b n c) → seen a m d g ≡ seen b n c g
 seen-same {a = a} {d} {b} {c} {m} {n} g e i = ap (seenOf g) (some-injective (sym e ∙ i))
   where
     seenOf : List Entry → Taking → ℕ

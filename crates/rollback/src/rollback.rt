@@ -1,6 +1,10 @@
 // Rollback.
+use crate::aims::aim_all;
+use crate::arrivals::levels;
 use crate::cut::settled;
 use crate::down::undo_to;
+use crate::links::LINKS;
+use crate::links::link_all;
 use calls::answers::Answer;
 use reading::entries::kind;
 use reading::entries::number;
@@ -58,4 +62,16 @@ fn event_back(
     from[x] = i;
     let cut = settled(links, few, from);
     undo_to(store, links, many, cut, levels)
+}
+
+// Event i of line x is undone with all events that depend on it, or nothing is.
+pub fn take_back(store: &mut [u32], x: usize, i: usize) -> Answer
+    requires { ⌜ IsImage (now store) × OfState (now store) (Happens x i) ⌝ }
+    ensures { λ r. ⌜ OfWords (now (store .entry)) (EventBack x i (now (store .exit)) r) ⌝ }
+{
+    let level = levels(store);
+    let mut links = [0usize; LINKS];
+    let few = link_all(store, &mut links);
+    let many = aim_all(store, &mut links, few);
+    event_back(store, &links, few, many, level, x, i)
 }
