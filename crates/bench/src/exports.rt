@@ -1,13 +1,33 @@
 // The calls for programs in other languages, on plain numbers and slices. Each returns value × 2^32 + number: 01's number, and the
 // position, count or length that goes with it.
+use backward::backward::back;
+use backward::backward::undeliver;
+use calls::answers::Answer;
+use calls::answers::number;
+use calls::answers::value;
+use forward::commands::deliver;
+use forward::commands::spawn;
+use forward::commands::step;
+use listing::listing::listing;
 use store::load::Loaded;
 use store::load::load;
+ghost use mathlib.Core.Path.{_≡_};
+ghost use Rattle.rules.specs.Commands.{step as stepOf, spawnInto, deliver as deliverOf, back as backOf, undeliver as undeliverOf};
+ghost use Rattle.rules.specs.Line.{single};
 ghost use Rattle.store.specs.Sizing.{sizesOf};
-ghost use Rattle.calls.specs.Calls.{LoadCall};
+ghost use Rattle.calls.specs.Calls.{RequestCall, ListingCall, LoadCall};
+ghost use Rattle.calls.specs.Numbers.{packed};
 ghost use Rattle.bench.specs.Exports.{returned};
 
 // Where the value stands: 2^32.
 const VALUE_PLACE: u64 = 4294967296;
+
+// An answer as a number.
+fn pack(a: Answer) -> u64
+    ensures { λ r. ⌜ r ≡ packed a ⌝ }
+{
+    value(a) as u64 * VALUE_PLACE + number(a) as u64
+}
 
 // Loads a module into a store. Number 0; 2; or 1 with the position of the bad word. A refused load leaves the store as it was.
 #[no_mangle]
@@ -26,4 +46,52 @@ pub extern "C" fn bench_load(
         Loaded::BadSizes => 2,
         Loaded::BadModule(at) => at as u64 * VALUE_PLACE + 1,
     }
+}
+
+// One step of p that isn't a spawn.
+#[no_mangle]
+pub extern "C" fn bench_step(store: &mut [u32], p: u32) -> u64
+    ensures { λ r. ⌜ RequestCall (single (stepOf p)) (now (store .entry)) (returned r (now (store .exit))) ⌝ }
+{
+    pack(step(store, p))
+}
+
+// A spawn of p into place f.
+#[no_mangle]
+pub extern "C" fn bench_spawn(store: &mut [u32], p: u32, f: u32) -> u64
+    ensures { λ r. ⌜ RequestCall (single (spawnInto p f)) (now (store .entry)) (returned r (now (store .exit))) ⌝ }
+{
+    pack(spawn(store, p, f))
+}
+
+// Message s.k comes to the end of its target's queue.
+#[no_mangle]
+pub extern "C" fn bench_deliver(store: &mut [u32], s: u32, k: u32) -> u64
+    ensures { λ r. ⌜ RequestCall (single (deliverOf s k)) (now (store .entry)) (returned r (now (store .exit))) ⌝ }
+{
+    pack(deliver(store, s, k))
+}
+
+// p's newest entry is undone.
+#[no_mangle]
+pub extern "C" fn bench_back(store: &mut [u32], p: u32) -> u64
+    ensures { λ r. ⌜ RequestCall (single (backOf p)) (now (store .entry)) (returned r (now (store .exit))) ⌝ }
+{
+    pack(back(store, p))
+}
+
+// The newest message of p's queue goes back into flight.
+#[no_mangle]
+pub extern "C" fn bench_undeliver(store: &mut [u32], p: u32) -> u64
+    ensures { λ r. ⌜ RequestCall (single (undeliverOf p)) (now (store .entry)) (returned r (now (store .exit))) ⌝ }
+{
+    pack(undeliver(store, p))
+}
+
+// The listing, written into an output; the value is its length. Bytes past it keep their values.
+#[no_mangle]
+pub extern "C" fn bench_listing(store: &[u32], out: &mut [u8]) -> u64
+    ensures { λ r. ⌜ ListingCall (now (store .entry)) (now (out .entry)) (returned r (now (out .exit))) ⌝ }
+{
+    pack(listing(store, out))
 }

@@ -1,0 +1,23 @@
+use Rattle.bench.proofs.Packed.{command-returns}
+use borrow.Author.Needs.{needs}
+use Rattle.bench.proofs.exports.bench_deliver.Statement.{statement}
+use Rattle.bench.proofs.exports.bench_deliver.Tie as tie
+use Rattle.bench.proofs.exports.bench_deliver.Reads as reads
+use Rattle.bench.proofs.exports.bench_deliver.Lts as lts
+use Rattle.bench.proofs.exports.pack.Reads as pack-reads
+use Rattle.forward.proofs.commands.deliver.Reads as deliver-reads
+
+deliver-requires : tie.Need-deliver-requires
+deliver-requires c κs = search needs
+
+pack-requires : tie.Need-pack-requires
+pack-requires c κs = search needs
+
+same-length : tie.Need-same-length
+same-length c = search needs
+
+returns : tie.Need-returns
+returns c = command-returns _ _ (c .pack .ensures) _ _ _ (c .before .before .before .deliver .ensures)
+
+pub bench-deliver-spec : {M : Type 1} → statement M
+bench-deliver-spec = tie.close (tie.spec deliver-requires pack-requires same-length returns)
