@@ -10,11 +10,14 @@ use reading::entries::kind;
 use reading::entries::number;
 use reading::found::Found;
 use reading::state::entry_count;
+use reading::state::in_pool;
+use soundness::sound::sound;
 use store::layout::CHECK;
 ghost use mathlib.Core.Path.{_≡_};
 ghost use Rattle.rules.specs.State.{asCheck};
 ghost use Rattle.rules.specs.Rollback.{isCheck};
 ghost use Rattle.store.specs.Image.{IsImage};
+ghost use Rattle.calls.specs.Numbers.{RollbackCall};
 ghost use Rattle.reading.specs.Reads.{OfState, IsPlace, IsEntry, OfEntry};
 ghost use Rattle.rollback.specs.Links.{Levels, Links};
 ghost use Rattle.rollback.specs.Going.{FindsCheck, Happens, EventBack, OfWords};
@@ -74,4 +77,20 @@ pub fn take_back(store: &mut [u32], x: usize, i: usize) -> Answer
     let few = link_all(store, &mut links);
     let many = aim_all(store, &mut links, few);
     event_back(store, &links, few, many, level, x, i)
+}
+
+// rollback p t
+pub fn rollback(store: &mut [u32], p: u32, t: u32) -> Answer
+    ensures { λ r. ⌜ RollbackCall p t (now (store .entry)) (now (store .exit)) r ⌝ }
+{
+    if !sound(store) {
+        return Answer::NotAState;
+    }
+    if !in_pool(store, p) {
+        return Answer::NoProcess;
+    }
+    let Found::At(i) = newest_check(store, p as usize, t) else {
+        return Answer::NoCheckpoint;
+    };
+    take_back(store, 2 * p as usize, i)
 }
