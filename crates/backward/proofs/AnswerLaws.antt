@@ -1,22 +1,19 @@
 -- How back and undeliver answer, by what the code knows at each of its returns.
-use Prim.Native.Nat.{ℕ, suc, _-_, _<_, _≤_}
+use Prim.Native.Nat.{ℕ, _-_, _<_, _≤_}
 use mathlib.Core.Path.{_≡_, refl, sym, _∙_, ap}
-use mathlib.Core.Logic.{_≢_}
 use mathlib.Core.Bool.{Bool, true, false, not}
 use mathlib.Core.Option.{Option, none, some}
 use mathlib.Core.List.{List, [], _∷_, _++_, map}
 use native.Mathlib.Omega.{arith}
-use lib.Dec.{ltb}
 use lib.ListN.{length, length-map}
 use Rattle.lists.specs.Decides.{Decides}
 use Rattle.lists.specs.Lists.{butLast}
 use Rattle.lists.proofs.Decides.{refuted}
 use Rattle.lists.proofs.Tests.{true-not-false, not-true, not-false, ltb-of}
-use Rattle.rules.specs.Answers.{noProcess, nothingToUndo, held}
+use Rattle.rules.specs.Answers.{held}
 use Rattle.rules.specs.State.{Message, Kind, seq, send, rec, spawn, self, check, Entry, Process, State, historyOf, historyAt, isProcess, inPool, sameQueue}
 use Rattle.rules.specs.Flight.{sends, left, flies}
 use Rattle.rules.specs.Commands.{Command, back, undeliver, Plan, refuse, accept, need, nothing, ownQueue, other, post, apply, undone, untouched, undoing, undelivering, atProcess, run, afterPlan, runState}
-use Rattle.rules.specs.Line.{single}
 use Rattle.rules.specs.Refusals.{for-back, for-undeliver, not-in-pool, no-entry, no-message-queued, message-held}
 use Rattle.rules.specs.Replies.{ofPlan, perform}
 use Rattle.rules.specs.Rules.{process}
@@ -31,8 +28,8 @@ use Rattle.calls.specs.Numbers.{numberOf, valueOf, Performs, CommandCall}
 use Rattle.calls.specs.declared.answers.Answer.{Answer}
 use Rattle.calls.specs.declared.answers.Answer.the-variants.{Done, NoProcess, NothingToUndo, Held, NotAState}
 use Rattle.calls.proofs.Accepted.{accepted-stored}
-use Rattle.backward.specs.Undoing.{Lives, IsNewest, isAccepted, Answers}
-use Rattle.backward.proofs.Newest.{entry-there}
+use Rattle.backward.specs.Undoing.{IsNewest, isAccepted, Answers}
+use Rattle.reading.proofs.Oldest.{entry-exists}
 use Rattle.backward.proofs.FlyingLaws.{lives-below}
 use Rattle.backward.proofs.HeldLaws.{run-back}
 
@@ -134,7 +131,7 @@ module _ (l : List ℕ) (p : ℕ) (b : Bool) (read : OfState l (λ s. b ≡ inPo
           unfolding OfState numberOf valueOf
           back-held fails = refusal (back p) l Held refl (λ s rest h.
               let newest = back-newest s rest h in
-              let (e, stands) = entry-there (historyAt s p) (n - 1) (omega (arith, newest)) in
+              let (e, stands) = entry-exists (historyAt s p) (n - 1) (omega (arith, newest)) in
               let ran = run-back s p (n - 1) e newest stands in
               ran ∙ held-plan s e _ (e .kind) (ap isAccepted (sym ran) ∙ sym (tested s rest h) ∙ not-true r fails))
 

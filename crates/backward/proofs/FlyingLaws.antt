@@ -1,28 +1,25 @@
 -- Whether a send's message is in flight, and whether a process is untouched, in the words of what the code reads.
-use Prim.Native.Nat.{ℕ, suc, _+_, _*_, _/_, _%_, _<_, _≤_}
+use Prim.Native.Nat.{ℕ, _+_, _*_, _/_, _%_, _<_, _≤_}
 use mathlib.Core.Path.{_≡_, refl, sym, _∙_, ap}
 use mathlib.Core.Bool.{Bool, true, false, not, _&&_}
 use mathlib.Core.Option.{Option, none, some}
-use mathlib.Core.List.{List, [], _∷_, _++_, map}
+use mathlib.Core.List.{List, [], _∷_, map}
 use native.Mathlib.Decide.{decLt}
 use native.Mathlib.Omega.{arith}
 use lib.ListN.{length, length-map}
 use Rattle.lists.proofs.Tests.{true-not-false}
-use Rattle.rules.specs.State.{Message, letter, asSend, Entry, Process, State, historyOf, historyAt, entryAt, isProcess, inPool, sameQueue}
-use Rattle.rules.specs.Flight.{sends, sent, hasCome, flies, awaited}
+use Rattle.rules.specs.State.{Message, Entry, Process, State, historyOf, historyAt, isProcess, inPool, sameQueue}
+use Rattle.rules.specs.Flight.{sends, hasCome, flies, awaited}
 use Rattle.rules.specs.Commands.{isNew, untouched}
 use Rattle.rules.specs.Sound.{Sound, SentTo}
-use Rattle.rules.proofs.Histories.{entry-suffix, suffix-sent, suffix-tail}
 use Rattle.store.specs.Layout.{nameBase, nameWord}
 use Rattle.store.specs.Image.{IsImage}
 use Rattle.store.proofs.SoundStates.{sizes-in, numbered}
 use Rattle.reading.specs.Reads.{Holds, OfState, IsPlace, IsSend, OfSend, oldest}
 use Rattle.backward.specs.Undoing.{Lives}
-use Rattle.backward.proofs.Newest.{oldest-suffix, entry-below}
-
--- the state that an image holds
-pub held-image : (l : List ℕ) (image : IsImage l) → Holds l (image .state) (image .rest)
-held-image l image = record { sound = image .sound; words = image .words }
+use Rattle.reading.proofs.Holding.{of-image}
+use Rattle.reading.proofs.Slotted.{entry-below}
+use Rattle.reading.proofs.Oldest.{sent-there}
 
 -- the pool ends at P
 pub lives-below : (s : State) → Sound s → (q : ℕ) → inPool s q ≡ true → q < s .sizes .places
@@ -36,14 +33,6 @@ pub lives-place : (l : List ℕ) (q : ℕ) → OfState l (Lives q) → OfState l
 unfolding OfState
 lives-place l q live s rest h = lives-below s (h .sound) q (live s rest h)
 
--- the message of a send, by its name
-send-out : (s : State) (p i : ℕ) (e : Entry) (target : ℕ) (value : List ℕ) → entryAt (historyAt s p) i ≡ some e → asSend (e .kind) ≡ some (letter target value)
-    → sent (historyAt s p) (sends (oldest i (historyAt s p))) ≡ some (letter target value)
-send-out s p i e target value stands is =
-    let (g, suffix, n) = entry-suffix (historyAt s p) i stands in
-    let below : oldest i (historyAt s p) ≡ g = ap (λ m. oldest m (historyAt s p)) (sym n) ∙ oldest-suffix (suffix-tail suffix) in
-    ap (λ h. sent (historyAt s p) (sends h)) below ∙ suffix-sent suffix is
-
 -- the name's numbers are small
 pub record Small (s : State) (p i : ℕ) : Type 0 where
   pub place : p < s .sizes .places
@@ -53,7 +42,7 @@ pub record Small (s : State) (p i : ℕ) : Type 0 where
 small : (s : State) → Sound s → (p i : ℕ) → IsSend p i s → Small s p i
 unfolding SentTo
 small s sound p i is =
-    let out = send-out s p i (is .entry) (is .target) (is .value) (is .stands) (is .is-send) in
+    let out = sent-there (historyAt s p) i (is .stands) (is .is-send) in
     let number = numbered s sound (is .target) (record { sender = p; count = sends (oldest i (historyAt s p)); value = is .value }) out in
     let sizes = sizes-in (s .sizes) (sound .sizes-pass) in
     record { place = number .sender-below; few-places = sizes .places-high; count = omega (arith, number .count-below, sizes .entries-high) }
@@ -61,7 +50,7 @@ small s sound p i is =
 module _ (l : List ℕ) (p i : ℕ) (is : OfState l (IsSend p i)) where
   pub send-small : (image : IsImage l) → Small (image .state) p i
   unfolding OfState
-  send-small image = small (image .state) (image .sound) p i (is (image .state) (image .rest) (held-image l image))
+  send-small image = small (image .state) (image .sound) p i (is (image .state) (image .rest) (of-image l image))
 
   pub send-place : OfState l (IsPlace p)
   unfolding OfState
@@ -69,7 +58,7 @@ module _ (l : List ℕ) (p i : ℕ) (is : OfState l (IsSend p i)) where
 
   pub send-count : (n : ℕ) → OfState l (λ s. n ≡ sends (oldest i (historyAt s p))) → IsImage l → n < 64
   unfolding OfState
-  send-count n counted image = omega (arith, send-small image .count, counted (image .state) (image .rest) (held-image l image))
+  send-count n counted image = omega (arith, send-small image .count, counted (image .state) (image .rest) (of-image l image))
 
   pub send-within : OfState l (λ s. i ≤ length (historyAt s p))
   unfolding OfState
@@ -81,7 +70,7 @@ module _ (l : List ℕ) (p i : ℕ) (is : OfState l (IsSend p i)) where
     target-lives s rest h =
         let e = is s rest h in
         let same = target-read s rest h (e .entry) (e .target) (e .value) (e .stands) (e .is-send) in
-        ap (inPool s) same ∙ h .sound .targets-in-pool p (sends (oldest i (historyAt s p))) (e .target) (e .value) (send-out s p i (e .entry) (e .target) (e .value) (e .stands) (e .is-send))
+        ap (inPool s) same ∙ h .sound .targets-in-pool p (sends (oldest i (historyAt s p))) (e .target) (e .value) (sent-there (historyAt s p) i (e .stands) (e .is-send))
 
     pub target-place : OfState l (IsPlace t)
     unfolding OfState

@@ -1,28 +1,28 @@
 -- Whether the newest entry may be undone: `run` accepts exactly where the code's test passes.
-use Prim.Native.Nat.{ℕ, suc, _<_, _≤_}
+use Prim.Native.Nat.{ℕ, suc}
 use mathlib.Core.Path.{_≡_, refl, sym, _∙_, ap, subst}
 use mathlib.Core.Logic.{inl, inr}
-use mathlib.Core.Bool.{Bool, true, false, not, _&&_}
+use mathlib.Core.Bool.{Bool, true, false}
 use mathlib.Core.Option.{Option, none, some}
 use mathlib.Core.List.{List, [], _∷_, _++_, map, append-nil}
 use native.Mathlib.Decide.{ℕ-discrete}
 use native.Mathlib.Omega.{arith}
 use lib.Dec.{eqb}
 use lib.ListN.{length, length-map, length-append}
-use Rattle.lists.proofs.Tests.{true-not-false, true-or-false, eqb-of, eqb-apart}
+use Rattle.lists.proofs.Tests.{true-or-false, eqb-of, eqb-apart}
 use Rattle.rules.specs.Answers.{held}
-use Rattle.rules.specs.State.{Message, letter, Kind, seq, send, rec, spawn, self, check, asSend, asRec, asSpawn, Entry, Process, State, historyOf, historyAt, entryAt, isProcess, inPool, sameQueue}
+use Rattle.rules.specs.State.{Message, Kind, seq, send, rec, spawn, self, check, asSend, asRec, asSpawn, Entry, Process, State, historyOf, historyAt, entryAt, inPool, sameQueue}
 use Rattle.rules.specs.Flight.{sends, leftOr, left, flies}
-use Rattle.rules.specs.Commands.{back, Deed, Move, Plan, refuse, accept, need, undone, untouched, undoing, backing, atProcess, run}
-use Rattle.rules.specs.Sound.{Sound, SpawnedBy, Prefix}
+use Rattle.rules.specs.Commands.{back, Deed, Move, accept, need, undone, untouched, undoing, backing, atProcess, run}
+use Rattle.rules.specs.Sound.{Prefix}
 use Rattle.rules.proofs.Messages.{same-queue, queue-same}
 use Rattle.rules.proofs.SoundFacts.{flows-left}
 use Rattle.store.specs.Layout.{kindSend, kindRec, kindSpawn, nameWord, kindNumber, numberIn}
-use Rattle.store.specs.Image.{IsImage}
 use Rattle.reading.specs.Reads.{Holds, OfState, IsPlace, IsEntry, OfEntry, IsSend, OfSend, oldest}
 use Rattle.backward.specs.Undoing.{Lives, IsNewest, isAccepted}
-use Rattle.backward.proofs.FlyingLaws.{lives-below}
-use Rattle.backward.proofs.Newest.{entry-there, newest-first, is-send, is-rec, is-spawn}
+use Rattle.reading.proofs.Slotted.{entry-place}
+use Rattle.reading.proofs.Oldest.{rec-by-kind, entry-exists}
+use Rattle.backward.proofs.Newest.{newest-first, is-send, is-spawn}
 
 -- a plan that needs a test is accepted where it passes
 accepted-need : (b : Bool) (n : ℕ) (d : Deed) (w : Move) → isAccepted (need b n (accept d w)) ≡ b
@@ -67,12 +67,6 @@ module _ (s : State) (p i : ℕ) (e : Entry) (newest : IsNewest p i s) (stands :
       go self k a b c = accepted-as self k
       go (check number) k a b c = accepted-as (check number) k
 
--- only a process has entries
-entries-live : (o : Option Process) → 0 < length (historyOf o) → isProcess o ≡ true
-unfolding historyOf isProcess
-entries-live none h = absurd (omega arith)
-entries-live (some a) h = refl
-
 -- a queue is what stands in front of it where it is as long
 prefix-same : (front queue : List Message) → Prefix front queue → sameQueue queue front ≡ eqb (length queue) (length front)
 prefix-same front queue prefix = go (ℕ-discrete (length queue) (length front))
@@ -97,11 +91,11 @@ module _ (l : List ℕ) (p i : ℕ) (newest : OfState l (IsNewest p i)) where
 
   there : (s : State) (rest : List ℕ) → Holds l s rest → (e : Entry) × (entryAt (historyAt s p) i ≡ some e)
   unfolding OfState
-  there s rest h = entry-there (historyAt s p) i (omega (arith, newest s rest h))
+  there s rest h = entry-exists (historyAt s p) i (omega (arith, newest s rest h))
 
   pub newest-place : OfState l (IsPlace p)
-  unfolding OfState historyAt inPool
-  newest-place s rest h = lives-below s (h .sound) p (entries-live (s .processes p) (omega (arith, newest s rest h)))
+  unfolding OfState
+  newest-place s rest h = entry-place s (h .sound) p i (omega (arith, newest s rest h))
 
   module _ (kind : ℕ) (read : OfState l (OfEntry p i (λ e. kind ≡ kindNumber (e .kind)))) where
     pub newest-send : kind ≡ kindSend → OfState l (IsSend p i)
@@ -124,7 +118,7 @@ module _ (l : List ℕ) (p i : ℕ) (newest : OfState l (IsNewest p i)) where
     unfolding OfState OfEntry left leftOr asRec
     undo-rec is names queue n counted s rest h =
         let (e, stands) = there s rest h in
-        let (older, m, newer, k) = is-rec (e .kind) (sym (read s rest h e stands) ∙ is) in
+        let (older, m, newer, k) = rec-by-kind (e .kind) (sym (read s rest h e stands) ∙ is) in
         let kept : left (historyAt s p) ≡ older ++ newer =
         ap left (newest-first (historyAt s p) i (newest s rest h) stands) ∙ ap (λ x. leftOr (asRec x) (left (oldest i (historyAt s p)))) k in
         let long : length names ≡ length (s .queues p) = ap length (queue s rest h) ∙ length-map (s .queues p) nameWord in

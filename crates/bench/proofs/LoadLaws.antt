@@ -2,7 +2,7 @@
 use Prim.Native.Nat.{ℕ, _+_, _*_, _≤_, _<_}
 use mathlib.Core.Path.{_≡_, refl, sym, _∙_, ap}
 use mathlib.Core.Logic.{inl, inr}
-use mathlib.Core.Bool.{Bool, true, false, _&&_}
+use mathlib.Core.Bool.{true, _&&_}
 use mathlib.Core.Option.{Option, none, some}
 use mathlib.Core.List.{List}
 use native.Mathlib.Omega.{arith}
@@ -10,9 +10,8 @@ use lib.Dec.{leb}
 use lib.ListN.{length}
 use Rattle.lists.proofs.Tests.{true-or-false, and-left}
 use Rattle.term.specs.Module.{longestModule, checkModule}
-use Rattle.rules.specs.Answers.{done, badModule, badSizes}
 use Rattle.rules.specs.State.{Sizes}
-use Rattle.rules.specs.Load.{goodSizes, loaded}
+use Rattle.rules.specs.Load.{goodSizes}
 use Rattle.store.specs.Layout.{needed}
 use Rattle.store.specs.Loading.{Outcome, numberOf, valueOf, afterLoad, loadInto, LoadAnswers}
 use Rattle.store.specs.declared.load.Loaded.{Loaded}

@@ -1,9 +1,8 @@
 -- Answers as numbers: what a number holds is the answer's number and value, and two results that a contract allows are equal.
 use Prim.Native.Nat.{ℕ, _+_, _*_, _/_, _%_, _<_}
-use mathlib.Core.Path.{_≡_, refl, sym, _∙_, ap, subst}
+use mathlib.Core.Path.{_≡_, sym, ap, subst}
 use mathlib.Core.List.{List}
 use native.Mathlib.Omega.{arith}
-use Rattle.rules.specs.Line.{Request}
 use Rattle.store.specs.Loading.{Outcome}
 use Rattle.calls.specs.Calls.{outcome, RequestCall, LineCall, ListingCall}
 use Rattle.calls.specs.Numbers.{numberOf, valueOf, Performs, CommandCall, RollbackCall, TextCall, Lists, valuePlace, packed}

@@ -1,7 +1,6 @@
 -- The position of a bad word is at most 512: a word that fails or breaks a rule stands in the module, or just behind it.
-use Prim.Native.Nat.{ℕ, suc, _+_, _≤_, _<_}
+use Prim.Native.Nat.{ℕ, suc, _+_, _≤_}
 use mathlib.Core.Path.{_≡_, refl, sym, _∙_, ap, subst}
-use mathlib.Core.Logic.{inl, inr}
 use mathlib.Core.Bool.{Bool, true, false}
 use mathlib.Core.Option.{Option, none, some}
 use mathlib.Core.List.{List, [], _∷_, _++_}
@@ -9,7 +8,7 @@ use native.Mathlib.Omega.{arith}
 use lib.Dec.{eqb, ltb}
 use lib.ListN.{length, length-append}
 use Rattle.lists.specs.Lists.{member, upTo}
-use Rattle.lists.proofs.Tests.{none-not-some, some-injective, true-or-false, ltb-false}
+use Rattle.lists.proofs.Tests.{ltb-false}
 use Rattle.term.specs.Words.{tagOf, tagInteger, tagVariable, tagLet, tagClause}
 use Rattle.term.specs.Table.{fits, childSpots, spotFunction}
 use Rattle.term.specs.Tree.{Term, Terms, int, node, end, _then_, words, wordsOf}

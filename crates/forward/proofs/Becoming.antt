@@ -1,7 +1,7 @@
 -- What a control becomes at a self, a spawn or a check: it has one word more in its working place.
 use Prim.Native.Nat.{ℕ}
-use mathlib.Core.Path.{_≡_, refl, sym, _∙_, ap, subst}
-use mathlib.Core.Logic.{_⊎_, inl, inr}
+use mathlib.Core.Path.{_≡_, refl, sym, _∙_, subst}
+use mathlib.Core.Logic.{inl, inr}
 use mathlib.Core.Bool.{Bool, true, false, cond}
 use mathlib.Core.Option.{Option, none, some}
 use mathlib.Core.List.{List, [], _∷_}
@@ -16,7 +16,7 @@ use Rattle.term.specs.Value.{isValue}
 use Rattle.machine.specs.Value.{atom, pid}
 use Rattle.machine.specs.Operator.{operateOn}
 use Rattle.machine.specs.Place.{working}
-use Rattle.machine.specs.Work.{Work, finished, stuck, toSeq, toSend, toReceive, toSpawn, toSelf, toCheck, next, seqOr, bodyWith, caseGives, letGives, sendTo, sendWork, workAt, workOf, work}
+use Rattle.machine.specs.Work.{Work, finished, stuck, toSeq, toSend, toReceive, toSpawn, toSelf, toCheck, next, seqOr, bodyWith, caseGives, letGives, sendTo, sendWork, workAt, work}
 use Rattle.step.proofs.RowWork.{work-reads, work-not, work-value}
 
 unfoldable OneWord : Term → Work → Type 0

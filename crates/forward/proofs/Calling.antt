@@ -1,24 +1,23 @@
 -- The public calls: 15 where the store is no image, else what the command does; and 3 where no process is at the place.
 use Prim.Native.Nat.{ℕ, _≤_}
-use mathlib.Core.Path.{_≡_, refl, sym, _∙_, ap, subst}
-use mathlib.Core.Bool.{Bool, true, false, not}
-use mathlib.Core.Option.{Option, none, some}
-use mathlib.Core.List.{List, _++_}
+use mathlib.Core.Path.{_≡_, refl, sym, _∙_}
+use mathlib.Core.Bool.{Bool, true, false}
+use mathlib.Core.List.{List}
 use native.Mathlib.Omega.{arith}
 use lib.ListN.{length, take}
 use lib.Seq.{length-take-le}
 use Rattle.lists.specs.Decides.{Decides}
 use Rattle.lists.proofs.Decides.{refuted}
-use Rattle.rules.specs.State.{Process, State, inPool}
-use Rattle.rules.specs.Commands.{Command, step, spawnInto, atProcess, run, refuse}
+use Rattle.rules.specs.State.{inPool}
+use Rattle.rules.specs.Commands.{Command, step, spawnInto, atProcess, run}
 use Rattle.rules.specs.Replies.{perform}
 use Rattle.rules.proofs.Frame.{no-process}
 use Rattle.store.specs.Image.{IsImage}
-use Rattle.calls.specs.Calls.{OfStore, RequestCall}
+use Rattle.calls.specs.Calls.{RequestCall}
 use Rattle.calls.specs.Numbers.{numberOf, valueOf, Performs, CommandCall}
 use Rattle.calls.specs.declared.answers.Answer.{Answer}
 use Rattle.calls.specs.declared.answers.Answer.the-variants.{NoProcess, NotAState}
-use Rattle.reading.specs.Reads.{Holds, OfState}
+use Rattle.reading.specs.Reads.{OfState}
 use Rattle.forward.specs.Forward.{Does, Lives, Sized}
 use Rattle.forward.proofs.Living.{sizes-of, at-image}
 use Rattle.forward.proofs.Made.{obeys-refused}

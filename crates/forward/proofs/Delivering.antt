@@ -1,18 +1,16 @@
 -- A delivery: 11 where there is no such message in flight, else it comes to the end of its target's queue, which has room.
-use Prim.Native.Nat.{ℕ, _+_, _*_, _/_, _%_, _≤_, _<_}
+use Prim.Native.Nat.{ℕ, _+_, _*_, _/_, _%_, _<_}
 use mathlib.Core.Path.{_≡_, refl, sym, _∙_, ap, subst}
 use mathlib.Core.Bool.{Bool, true, false, not, _&&_}
 use mathlib.Core.Option.{Option, none, some}
 use mathlib.Core.List.{List, [], _∷_, _++_}
 use native.Mathlib.Omega.{arith}
 use lib.ListN.{length, length-append}
-use Rattle.lists.proofs.Tests.{and-of}
-use Rattle.lists.specs.Tables.{put}
 use Rattle.lists.proofs.Tables.{put-same}
 use Rattle.rules.specs.Answers.{noMessage}
 use Rattle.rules.specs.State.{Message, Letter, letter, Process, State, historyOf, historyAt, inPool}
 use Rattle.rules.specs.Flight.{sent, hasCome, flies}
-use Rattle.rules.specs.Sound.{SentTo, Sound}
+use Rattle.rules.specs.Sound.{SentTo}
 use Rattle.rules.specs.Commands.{deliver, delivers, post, Plan, refuse, accept, need, setQueue, apply, delivering, run, afterPlan, runState}
 use Rattle.rules.specs.Rules.{message}
 use Rattle.rules.proofs.Frame.{no-process}
@@ -27,7 +25,7 @@ use Rattle.reading.specs.declared.found.Found.{Found}
 use Rattle.reading.specs.declared.found.Found.the-variants.{Nowhere, At}
 use Rattle.writing.specs.Writes.{Leads, Posts, CanPost}
 use Rattle.forward.specs.Forward.{Does, SendAt}
-use Rattle.forward.proofs.Living.{place-is, sizes-of, at-image}
+use Rattle.forward.proofs.Living.{place-is, sizes-of}
 use Rattle.forward.proofs.Made.{obeys-refused, obeys-done}
 use Rattle.forward.proofs.Mailing.{Said, said, name-sender, name-count, found-at}
 

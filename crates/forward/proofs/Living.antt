@@ -1,7 +1,7 @@
 -- What is known of a process that lives in the sound state that a store holds.
-use Prim.Native.Nat.{ℕ, _≤_, _<_}
-use mathlib.Core.Path.{_≡_, refl, sym, _∙_, ap, subst}
-use mathlib.Core.Bool.{true, false}
+use Prim.Native.Nat.{ℕ, _<_}
+use mathlib.Core.Path.{_≡_, refl, _∙_, ap}
+use mathlib.Core.Bool.{true}
 use mathlib.Core.Option.{Option, none, some}
 use mathlib.Core.List.{List}
 use native.Mathlib.Decide.{decLt}
@@ -17,7 +17,7 @@ use Rattle.rules.specs.State.{Process, State, historyOf, historyAt, isProcess, 
 use Rattle.rules.specs.Sound.{SoundControl, Sound}
 use Rattle.store.specs.Image.{IsImage}
 use Rattle.store.proofs.SoundStates.{SizesIn, sizes-in, module-short}
-use Rattle.reading.specs.Reads.{Holds, OfState, controlOf, controlAt, IsPlace}
+use Rattle.reading.specs.Reads.{OfState, controlOf, controlAt, IsPlace}
 use Rattle.forward.specs.Forward.{Lives, processAt}
 use Rattle.step.proofs.Ready.{control-ready}
 

@@ -1,30 +1,29 @@
 -- The end of every forward step: 9 where the next control is too large, 10 where the history is full, else an entry more.
-use Prim.Native.Nat.{ℕ, _≤_, _<_}
+use Prim.Native.Nat.{ℕ, _≤_}
 use mathlib.Core.Path.{_≡_, refl, sym, _∙_, ap, subst}
-use mathlib.Core.Logic.{_⊎_, inl, inr}
-use mathlib.Core.Bool.{Bool, true, false, cond}
-use mathlib.Core.Option.{Option, none, some}
-use mathlib.Core.List.{List, [], _∷_, _++_}
+use mathlib.Core.Logic.{inl, inr}
+use mathlib.Core.Bool.{Bool, true, false}
+use mathlib.Core.Option.{some}
+use mathlib.Core.List.{List, _++_}
 use native.Mathlib.Omega.{arith}
 use lib.Dec.{leb, ltb}
 use lib.ListN.{length, take, length-take}
-use lib.Seq.{sets, sets-eq, length-sets, length-take-le, take-append-seam}
-use Rattle.lists.proofs.Tests.{leb-true, leb-of, leb-over, leb-false, ltb-true, true-or-false, cond-true, cond-false}
+use lib.Seq.{sets-eq, length-sets, length-take-le, take-append-seam}
+use Rattle.lists.proofs.Tests.{leb-true, leb-of, ltb-true, true-or-false, cond-true, cond-false}
 use Rattle.step.specs.Steps.{fittedOf, WroteNext}
 use Rattle.step.specs.declared.step.Next.{Next}
 use Rattle.step.specs.declared.step.Next.the-variants.{Nothing, TooLarge, Row}
 use Rattle.rules.specs.Answers.{tooLarge, historyFull}
-use Rattle.rules.specs.State.{Message, Kind, rec, spawn, State, historyAt, inPool}
+use Rattle.rules.specs.State.{Kind, rec, spawn, State, historyAt}
 use Rattle.rules.specs.Load.{newProcess}
 use Rattle.rules.specs.Commands.{Deed, Move, Beside, nothing, ownQueue, other, makes, turn, Plan, refuse, accept, need, apply, entry, making}
 use Rattle.rules.specs.Replies.{ofPlan}
-use Rattle.store.specs.Layout.{kindNumber, numberIn, image}
-use Rattle.store.specs.Image.{IsImage}
+use Rattle.store.specs.Layout.{image}
 use Rattle.calls.specs.Calls.{outcome, stored, countIn}
 use Rattle.calls.specs.Numbers.{numberOf, valueOf}
 use Rattle.calls.specs.declared.answers.Answer.{Answer}
 use Rattle.calls.specs.declared.answers.Answer.the-variants.{Done, TooLarge as LargeAnswer, HistoryFull}
-use Rattle.reading.specs.Reads.{Holds, OfState, controlAt}
+use Rattle.reading.specs.Reads.{OfState}
 use Rattle.writing.specs.Writes.{Leads, grown, Enters, Takes, Spawns, CanGrow}
 use Rattle.forward.specs.Forward.{Obeys, Lives, Sized, Within, Drawn, processAt, Made, MakesEntry, MakesRec, MakesSpawn}
 
@@ -89,7 +88,7 @@ obeys-same plan plan′ s rest exit r e h = h ∙ ap (λ (x : Plan). stored (ofP
 
 -- ---- making
 
-module _ (s : State) (p : ℕ) (what : Kind) (beside : Beside) (rest whole row : List ℕ) where
+module _ (s : State) (p : ℕ) (what : Kind) (beside : Beside) (whole : List ℕ) where
   making-large : leb (length whole) (s .sizes .words) ≡ false → making s p (processAt s p) what whole beside ≡ refuse tooLarge
   unfolding making need
   making-large e = rw e refl
@@ -110,13 +109,13 @@ module _ (s : State) (p : ℕ) (what : Kind) (beside : Beside) (rest exit row : 
 
   pub made-large : exit ≡ image s ++ rest → Made p what beside TooLarge row s rest exit LargeAnswer
   unfolding Made numberOf valueOf
-  made-large e whole d = obeys-refused _ s rest exit LargeAnswer e refl (making-large s p what beside rest whole row (fitted-large (length whole) (s .sizes .words) (d .told)))
+  made-large e whole d = obeys-refused _ s rest exit LargeAnswer e refl (making-large s p what beside whole (fitted-large (length whole) (s .sizes .words) (d .told)))
 
   pub made-full : (n : ℕ) → exit ≡ image s ++ rest → ltb (length (historyAt s p)) (s .sizes .entries) ≡ false → Made p what beside (Row n) row s rest exit HistoryFull
   unfolding Made numberOf valueOf
   made-full n e f whole d =
       let fits = fitted-row n (length whole) (s .sizes .words) (d .told) .1 in
-      obeys-refused _ s rest exit HistoryFull e refl (making-full s p what beside rest whole row (leb-of (length whole) (s .sizes .words) fits) f)
+      obeys-refused _ s rest exit HistoryFull e refl (making-full s p what beside whole (leb-of (length whole) (s .sizes .words) fits) f)
 
   pub made-done : (n : ℕ) → exit ≡ image (apply (turn p (grown s p what (take n row)) beside) s) ++ rest → ltb (length (historyAt s p)) (s .sizes .entries) ≡ true
       → Made p what beside (Row n) row s rest exit (Done 0)
@@ -126,7 +125,7 @@ module _ (s : State) (p : ℕ) (what : Kind) (beside : Beside) (rest exit row : 
       let same : take n row ≡ whole = ap (λ (x : ℕ). take x row) (sym (t .0)) ∙ d .stands (t .1) in
       obeys-done _ (makes p what) (turn p (grown s p what whole) beside) s rest exit
       (e ∙ ap (λ (x : List ℕ). image (apply (turn p (grown s p what x) beside) s) ++ rest) same)
-      (making-done s p what beside rest whole row (leb-of (length whole) (s .sizes .words) (t .1)) f)
+      (making-done s p what beside whole (leb-of (length whole) (s .sizes .words) (t .1)) f)
 
 -- ---- what the code knows before it writes
 

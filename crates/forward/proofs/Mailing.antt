@@ -1,14 +1,14 @@
 -- A message that was sent: its name, its value, and the entry that sent it.
 use Prim.Native.Nat.{ℕ, _+_, _*_, _/_, _%_, _≤_, _<_}
 use mathlib.Core.Path.{_≡_, refl, sym, _∙_, ap, subst, subst₂}
-use mathlib.Core.Bool.{Bool, true, false, cond}
+use mathlib.Core.Bool.{Bool, true, false}
 use mathlib.Core.Option.{Option, none, some}
-use mathlib.Core.List.{List, [], _∷_, _++_}
+use mathlib.Core.List.{List, _++_}
 use native.Mathlib.Omega.{arith}
 use lib.Dec.{eqb}
-use lib.ListN.{length, drop, length-append, length-drop}
+use lib.ListN.{length, length-append, length-drop}
 use Rattle.lists.proofs.Tests.{none-not-some, some-injective}
-use Rattle.term.specs.Words.{word, tagPid, tagCall, tagApply, tagCase, tagLet, tagReceive, tagSpawn, tagSend, tagSelf, tagCheck}
+use Rattle.term.specs.Words.{tagPid, tagCall, tagApply, tagCase, tagLet, tagReceive, tagSpawn, tagSend, tagSelf, tagCheck}
 use Rattle.term.specs.Tree.{Term, Terms, int, node, end, _then_, words, wordsOf}
 use Rattle.term.specs.Read.{termOf, termsOf}
 use Rattle.term.specs.Module.{functionOf}
@@ -17,19 +17,19 @@ use Rattle.machine.specs.Place.{working}
 use Rattle.machine.specs.Work.{Work, finished, stuck, toSeq, toSend, toReceive, toSpawn, toSelf, toCheck, next, seqOr, bodyWith, caseGives, letGives, sendTo, sendWork, workAt, work}
 use Rattle.step.specs.Rows.{placeOf}
 use Rattle.step.specs.Controls.{ControlIs}
-use Rattle.step.specs.Becomes.{ValueIs, RowIs}
+use Rattle.step.specs.Becomes.{ValueIs}
 use Rattle.step.specs.Becomes
 use Rattle.step.specs.declared.step.Next.{Next}
 use Rattle.step.proofs.RowSplit.{working-stands}
 use Rattle.step.proofs.RowWork.{work-reads, work-not}
 use Rattle.rules.specs.State.{Message, Letter, letter, asSend, Entry, State, historyAt, entryAt}
 use Rattle.rules.specs.Flight.{sent}
-use Rattle.rules.specs.Sound.{SoundControl, AboutToSend, SentTo, Sound}
+use Rattle.rules.specs.Sound.{SentTo, Sound}
 use Rattle.rules.proofs.Histories.{sent-suffix, suffix-entry}
-use Rattle.store.specs.Layout.{nameBase, nameWord}
+use Rattle.store.specs.Layout.{nameWord}
 use Rattle.store.specs.Image.{IsImage}
 use Rattle.store.proofs.SoundStates.{numbered}
-use Rattle.reading.specs.Reads.{Holds, OfState, controlAt, IsPlace, OfSend, IsSend, SendFound}
+use Rattle.reading.specs.Reads.{OfState, controlAt, IsPlace, OfSend, IsSend, SendFound}
 use Rattle.reading.specs.declared.found.Found.{Found}
 use Rattle.reading.specs.declared.found.Found.the-variants.{Nowhere, At}
 use Rattle.forward.specs.Forward.{Lives, about, IsSent, ValueSent, TakenRow, SendAt}

@@ -1,20 +1,16 @@
 -- What a process is about to do, and the next controls that the code writes, are those of `work`.
 use Prim.Native.Nat.{ℕ}
-use mathlib.Core.Path.{_≡_, refl, sym, _∙_, ap, subst, subst₂}
-use mathlib.Core.Bool.{true, false}
+use mathlib.Core.Path.{_≡_, sym, _∙_, ap, subst, subst₂}
 use mathlib.Core.List.{List, [], _∷_}
-use Rattle.term.specs.Words.{word, tagAtom, tagPid}
-use Rattle.term.specs.Tree.{words}
 use Rattle.term.specs.Read.{termOf, termsOf}
 use Rattle.machine.specs.Value.{atom, pid}
-use Rattle.machine.specs.Work.{Work, toSeq, toSend, toSpawn, toSelf, toCheck, work, next}
+use Rattle.machine.specs.Work.{Work, work, next}
 use Rattle.step.specs.Steps.{WroteNext}
 use Rattle.step.specs.Controls.{ControlIs, doingOf, DoingOf}
 use Rattle.step.specs.Becomes.{BecomesWord, SeqIs, SeqNext, SendNext, ChildNext}
 use Rattle.step.specs.declared.work.Doing.{Doing}
 use Rattle.step.specs.declared.step.Next.{Next}
-use Rattle.rules.specs.State.{State}
-use Rattle.reading.specs.Reads.{Holds, OfState, controlAt}
+use Rattle.reading.specs.Reads.{OfState, controlAt}
 use Rattle.forward.specs.Forward.{Lives, about, SeqRow, SendRow, WordRow, ChildRow}
 use Rattle.step.proofs.Ready.{module-ready}
 use Rattle.forward.proofs.Living.{ready}

@@ -1,5 +1,5 @@
 -- The oldest message that a receive takes: the walk over the queue finds what `pick` does.
-use Prim.Native.Nat.{ℕ, zero, suc, _+_, _*_, _≤_, _<_}
+use Prim.Native.Nat.{ℕ, suc, _+_, _≤_, _<_}
 use mathlib.Core.Path.{_≡_, refl, sym, _∙_, ap, subst}
 use mathlib.Core.Option.{Option, none, some}
 use mathlib.Core.List.{List, [], _∷_, _++_, map}
@@ -8,20 +8,19 @@ use native.Mathlib.Numerals.{add-one}
 use lib.ListN.{length, take, drop, getD, length-map}
 use lib.Seq.{take-suc, take-all, split-at, length-take-le}
 use Rattle.lists.specs.Lists.{All}
-use Rattle.lists.proofs.Tests.{none-not-some}
 use Rattle.lists.proofs.All.{all-left, all-append, all-getD, map-at}
-use Rattle.machine.specs.Work.{Work, toReceive}
-use Rattle.step.specs.Steps.{fittedOf, WroteNext}
+use Rattle.machine.specs.Work.{toReceive}
+use Rattle.step.specs.Steps.{WroteNext}
 use Rattle.step.specs.Becomes.{RowIs}
 use Rattle.step.specs.declared.step.Next.{Next}
 use Rattle.step.specs.declared.step.Next.the-variants.{Nothing, TooLarge, Row}
 use Rattle.rules.specs.State.{Message, State, historyAt}
 use Rattle.rules.specs.Flight.{taken}
-use Rattle.rules.specs.Sound.{SentTo, Sound}
+use Rattle.rules.specs.Sound.{SentTo}
 use Rattle.rules.specs.Commands.{Picked, picked, orLater, pick}
 use Rattle.store.specs.Layout.{nameWord}
 use Rattle.reading.specs.Reads.{Holds, OfState}
-use Rattle.forward.specs.Forward.{Lives, about, IsSent, TakenRow, PickIs, PickedRow}
+use Rattle.forward.specs.Forward.{about, IsSent, TakenRow, PickIs, PickedRow}
 use Rattle.forward.specs.declared.picking.Picked.{Picked as Told}
 use Rattle.forward.proofs.Made.{fitted-nothing}
 

@@ -1,16 +1,16 @@
 -- A spawn: 8 where the place is none or taken, else the child comes with its first control, which always fits.
 use Prim.Native.Nat.{ℕ, _≤_, _<_}
-use mathlib.Core.Path.{_≡_, refl, sym, _∙_, ap, subst}
+use mathlib.Core.Path.{_≡_, refl, sym, _∙_, ap}
 use mathlib.Core.Bool.{Bool, true, false, not}
-use mathlib.Core.Option.{Option, none, some}
-use mathlib.Core.List.{List, [], _∷_, _++_}
+use mathlib.Core.Option.{none, some}
+use mathlib.Core.List.{List}
 use native.Mathlib.Omega.{arith}
-use lib.Dec.{leb, ltb}
+use lib.Dec.{ltb}
 use lib.ListN.{length, take}
 use lib.Seq.{length-take-le}
 use Rattle.lists.proofs.Tests.{true-not-false, leb-of, ltb-of, ltb-over}
 use Rattle.term.specs.Words.{word, tagPid}
-use Rattle.machine.specs.Work.{Work, toSpawn}
+use Rattle.machine.specs.Work.{toSpawn}
 use Rattle.step.specs.Steps.{fittedOf, WroteNext}
 use Rattle.step.specs.declared.work.Doing.the-variants.{Spawn}
 use Rattle.step.specs.declared.step.Next.{Next}
@@ -23,7 +23,7 @@ use Rattle.store.specs.Image.{IsImage}
 use Rattle.calls.specs.Numbers.{numberOf, valueOf}
 use Rattle.calls.specs.declared.answers.Answer.{Answer}
 use Rattle.calls.specs.declared.answers.Answer.the-variants.{PlaceTaken, TooLarge as LargeAnswer}
-use Rattle.reading.specs.Reads.{Holds, OfState, controlAt}
+use Rattle.reading.specs.Reads.{Holds, OfState}
 use Rattle.writing.specs.Writes.{CanSpawn}
 use Rattle.forward.specs.Forward.{Does, Lives, about, About, Sized, WordRow, ChildRow, Within, processAt, MakesSpawn, Free, Made}
 use Rattle.forward.proofs.Living.{control-is, control-good, laws-of, sizes-of, at-image}

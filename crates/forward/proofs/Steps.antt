@@ -1,33 +1,31 @@
 -- Each thing that a process may be about to do: what the code knows of it makes `run`'s answer.
 use Prim.Native.Nat.{ℕ, _≤_, _<_}
 use mathlib.Core.Path.{_≡_, refl, sym, _∙_, ap, subst}
-use mathlib.Core.Logic.{_⊎_, inl, inr}
 use mathlib.Core.Bool.{Bool, true, false}
 use mathlib.Core.Option.{Option, none, some}
-use mathlib.Core.List.{List, [], _∷_, _++_}
+use mathlib.Core.List.{List, _∷_, _++_}
 use native.Mathlib.Omega.{arith}
-use lib.ListN.{length, take, length-append}
+use lib.ListN.{length, length-append}
 use Rattle.term.specs.Words.{word, tagAtom, tagPid}
 use Rattle.machine.specs.Work.{Work, finished, stuck, toSeq, toSend, toReceive, toSpawn, toSelf, toCheck, work}
-use Rattle.step.specs.Steps.{fittedOf, WroteNext}
+use Rattle.step.specs.Steps.{WroteNext}
 use Rattle.step.specs.Controls.{doingOf}
 use Rattle.step.specs.declared.work.Doing.{Doing}
 use Rattle.step.specs.declared.work.Doing.the-variants.{Finished, Stuck, Seq, Send, Receive, Spawn, Own, Check}
 use Rattle.step.specs.declared.step.Next.{Next}
 use Rattle.step.specs.declared.step.Next.the-variants.{Nothing, TooLarge, Row}
-use Rattle.rules.specs.Answers.{waiting, wrongCommand}
-use Rattle.rules.specs.State.{Message, Kind, seq, send, rec, spawn, self, check, asRec, Process, State, inPool}
+use Rattle.rules.specs.State.{Kind, seq, send, rec, self, check, asRec, Process, State, inPool}
 use Rattle.rules.specs.Sound.{Sound}
-use Rattle.rules.specs.Commands.{Command, step, spawnInto, Beside, nothing, ownQueue, Plan, refuse, need, Picked, picked, pick, making, receiving, stepping, spawning, atProcess, run}
+use Rattle.rules.specs.Commands.{step, spawnInto, Beside, nothing, ownQueue, refuse, need, Picked, picked, pick, making, receiving, stepping, spawning, atProcess, run}
 use Rattle.rules.proofs.Messages.{pick-is}
 use Rattle.store.specs.Layout.{kindSeq, kindSend, kindSelf, kindCheck, kindNumber, numberIn, image}
 use Rattle.store.specs.Image.{IsImage}
 use Rattle.calls.specs.Numbers.{numberOf, valueOf}
 use Rattle.calls.specs.declared.answers.Answer.{Answer}
 use Rattle.calls.specs.declared.answers.Answer.the-variants.{Finished as FinishedAnswer, Waiting, Stuck as StuckAnswer, WrongCommand, TooLarge as LargeAnswer}
-use Rattle.reading.specs.Reads.{Holds, OfState, controlAt}
+use Rattle.reading.specs.Reads.{Holds, OfState}
 use Rattle.writing.specs.Writes.{CanTake}
-use Rattle.forward.specs.Forward.{Obeys, Does, Lives, about, About, Sized, SeqRow, SendRow, WordRow, PickIs, PickedRow, Within, Drawn, processAt, Made, MakesEntry, MakesRec}
+use Rattle.forward.specs.Forward.{Obeys, Does, Lives, about, About, Sized, SeqRow, SendRow, WordRow, PickIs, PickedRow, Within, processAt, Made, MakesEntry, MakesRec}
 use Rattle.forward.specs.declared.picking.Picked.{Picked as Told}
 use Rattle.forward.proofs.Living.{process-is, place-is, control-good, laws-of, sizes-of, at-image}
 use Rattle.forward.proofs.Made.{fitted-nothing, fitted-row, wrote-drawn, wrote-length, wrote-within, obeys-refused, obeys-same, made-large}

@@ -1,9 +1,9 @@
 -- What the functions of step, spawn and deliver promise, said of the state that a store holds. Assumes nothing: these are definitions.
-use Prim.Native.Nat.{ℕ, _≤_, _<_, _/_, _%_}
+use Prim.Native.Nat.{ℕ, _≤_, _<_}
 use mathlib.Core.Path.{_≡_}
 use mathlib.Core.Bool.{true, false}
 use mathlib.Core.Option.{Option, none, some}
-use mathlib.Core.List.{List, [], _∷_, _++_}
+use mathlib.Core.List.{List, _∷_, _++_}
 use lib.ListN.{length, take}
 use Rattle.term.specs.Words.{word, tagAtom, tagPid}
 use Rattle.machine.specs.Work.{Work, toSeq, toSend, toReceive, toSpawn, toSelf, toCheck, work}
@@ -20,7 +20,7 @@ use Rattle.rules.specs.Load.{newProcess}
 use Rattle.rules.specs.Commands.{Command, Beside, nothing, ownQueue, other, Plan, picked, pick, making, run}
 use Rattle.rules.specs.Commands
 use Rattle.rules.specs.Replies.{ofPlan}
-use Rattle.store.specs.Layout.{kindNumber, numberIn, nameBase, nameWord}
+use Rattle.store.specs.Layout.{kindNumber, numberIn, nameWord}
 use Rattle.calls.specs.Calls.{outcome, stored}
 use Rattle.calls.specs.Numbers.{numberOf, valueOf}
 use Rattle.calls.specs.declared.answers.Answer.{Answer}

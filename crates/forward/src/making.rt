@@ -70,11 +70,11 @@ pub fn make_spawn(
         Next::Nothing => Answer::TooLarge,
         Next::TooLarge => Answer::TooLarge,
         Next::Row(n) => {
-            if !has_room(store, p) {
-                return Answer::HistoryFull;
+            if has_room(store, p) {
+                bear(store, p, f, &row[..n], first);
+                return Answer::Done(0);
             }
-            bear(store, p, f, &row[..n], first);
-            Answer::Done(0)
+            Answer::HistoryFull
         }
     }
 }

@@ -2,10 +2,6 @@ use Rattle.backward.proofs.AnswerLaws.{no-state, a-state, state-answers
 use borrow.Author.Needs.{needs}
 use Rattle.backward.proofs.backward.back.Statement.{statement}
 use Rattle.backward.proofs.backward.back.Tie as tie
-use Rattle.backward.proofs.backward.back.Reads as reads
-use Rattle.backward.proofs.backward.back.Lts as lts
-use Rattle.backward.proofs.backward.back_held.Reads as back-held-reads
-use Rattle.soundness.proofs.sound.sound.Reads as sound-reads
 
 sound-requires : tie.Need-sound-requires
 sound-requires c κs = search needs

@@ -2,12 +2,6 @@ use Rattle.backward.proofs.AnswerLaws.{pool-place, back-no-process, bac
 use borrow.Author.Needs.{needs}
 use Rattle.backward.proofs.backward.back_held.Statement.{statement}
 use Rattle.backward.proofs.backward.back_held.Tie as tie
-use Rattle.backward.proofs.backward.back_held.Reads as reads
-use Rattle.backward.proofs.backward.back_held.Lts as lts
-use Rattle.backward.proofs.held.may_undo.Reads as may-undo-reads
-use Rattle.reading.proofs.state.entry_count.Reads as entry-count-reads
-use Rattle.reading.proofs.state.in_pool.Reads as in-pool-reads
-use Rattle.writing.proofs.undoing.undo.Reads as undo-reads
 
 in-pool-requires : tie.Need-in-pool-requires
 in-pool-requires c κs = search needs

@@ -2,10 +2,6 @@ use Rattle.backward.proofs.AnswerLaws.{no-state, a-state, state-answers
 use borrow.Author.Needs.{needs}
 use Rattle.backward.proofs.backward.undeliver.Statement.{statement}
 use Rattle.backward.proofs.backward.undeliver.Tie as tie
-use Rattle.backward.proofs.backward.undeliver.Reads as reads
-use Rattle.backward.proofs.backward.undeliver.Lts as lts
-use Rattle.backward.proofs.backward.undeliver_held.Reads as undeliver-held-reads
-use Rattle.soundness.proofs.sound.sound.Reads as sound-reads
 
 sound-requires : tie.Need-sound-requires
 sound-requires c κs = search needs

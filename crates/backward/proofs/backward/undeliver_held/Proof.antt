@@ -2,12 +2,6 @@ use Rattle.backward.proofs.AnswerLaws.{pool-place, undeliver-no-process
 use borrow.Author.Needs.{needs}
 use Rattle.backward.proofs.backward.undeliver_held.Statement.{statement}
 use Rattle.backward.proofs.backward.undeliver_held.Tie as tie
-use Rattle.backward.proofs.backward.undeliver_held.Reads as reads
-use Rattle.backward.proofs.backward.undeliver_held.Lts as lts
-use Rattle.backward.proofs.held.left.Reads as left-reads
-use Rattle.writing.proofs.posting.unpost.Reads as unpost-reads
-use Rattle.reading.proofs.state.in_pool.Reads as in-pool-reads
-use Rattle.reading.proofs.state.queue.Reads as queue-reads
 
 in-pool-requires : tie.Need-in-pool-requires
 in-pool-requires c κs = search needs

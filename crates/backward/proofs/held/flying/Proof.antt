@@ -3,11 +3,6 @@ use Rattle.backward.proofs.FlyingLaws.{send-small, send-place, send-cou
 use borrow.Author.Needs.{needs}
 use Rattle.backward.proofs.held.flying.Statement.{statement}
 use Rattle.backward.proofs.held.flying.Tie as tie
-use Rattle.backward.proofs.held.flying.Reads as reads
-use Rattle.backward.proofs.held.flying.Lts as lts
-use Rattle.reading.proofs.mail.has_come.Reads as has-come-reads
-use Rattle.reading.proofs.mail.sends_before.Reads as sends-before-reads
-use Rattle.reading.proofs.mail.target.Reads as target-reads
 
 target-requires : tie.Need-target-requires
 target-requires c κs = search needs

@@ -4,11 +4,6 @@ use Rattle.reading.specs.Reads.{OfState}
 use Rattle.backward.proofs.LeftLaws.{NoRecFrom, left-start, left-ends, left-entry, left-again, left-some, left-found}
 use Rattle.backward.proofs.held.left.Statement.{statement}
 use Rattle.backward.proofs.held.left.Tie as tie
-use Rattle.backward.proofs.held.left.Reads as reads
-use Rattle.backward.proofs.held.left.Lts as lts
-use Rattle.reading.proofs.entries.kind.Reads as kind-reads
-use Rattle.reading.proofs.entries.queue_before.Reads as queue-before-reads
-use Rattle.reading.proofs.state.entry_count.Reads as entry-count-reads
 
 abbrev Inv-loop : tie.InvT-loop
 Inv-loop store p i₀ i = OfState store (NoRecFrom p i)

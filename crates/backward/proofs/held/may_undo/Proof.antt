@@ -2,14 +2,6 @@ use Rattle.backward.proofs.HeldLaws.{newest-entry, newest-place, newest
 use borrow.Author.Needs.{needs}
 use Rattle.backward.proofs.held.may_undo.Statement.{statement}
 use Rattle.backward.proofs.held.may_undo.Tie as tie
-use Rattle.backward.proofs.held.may_undo.Reads as reads
-use Rattle.backward.proofs.held.may_undo.Lts as lts
-use Rattle.reading.proofs.entries.kind.Reads as kind-reads
-use Rattle.reading.proofs.entries.number.Reads as number-reads
-use Rattle.backward.proofs.held.flying.Reads as flying-reads
-use Rattle.backward.proofs.held.left.Reads as left-reads
-use Rattle.backward.proofs.held.untouched.Reads as untouched-reads
-use Rattle.reading.proofs.state.queue.Reads as queue-reads
 
 kind-requires : tie.Need-kind-requires
 kind-requires c κs = let pre = c .before .pre in (pre .0, newest-entry _ _ _ (pre .1))

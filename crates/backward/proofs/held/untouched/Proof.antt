@@ -1,11 +1,6 @@
 use Rattle.backward.proofs.FlyingLaws.{lives-place, untouched-not, untouched-queued, untouched-awaited}
 use Rattle.backward.proofs.held.untouched.Statement.{statement}
 use Rattle.backward.proofs.held.untouched.Tie as tie
-use Rattle.backward.proofs.held.untouched.Reads as reads
-use Rattle.backward.proofs.held.untouched.Lts as lts
-use Rattle.reading.proofs.mail.awaited.Reads as awaited-reads
-use Rattle.reading.proofs.state.entry_count.Reads as entry-count-reads
-use Rattle.reading.proofs.state.queue.Reads as queue-reads
 
 entry-count-requires : tie.Need-entry-count-requires
 entry-count-requires c κs = let pre = c .before .pre in (pre .0, lives-place _ _ (pre .1))

@@ -2,10 +2,6 @@ use Rattle.bench.proofs.Packed.{command-returns}
 use borrow.Author.Needs.{needs}
 use Rattle.bench.proofs.exports.bench_back.Statement.{statement}
 use Rattle.bench.proofs.exports.bench_back.Tie as tie
-use Rattle.bench.proofs.exports.bench_back.Reads as reads
-use Rattle.bench.proofs.exports.bench_back.Lts as lts
-use Rattle.backward.proofs.backward.back.Reads as back-reads
-use Rattle.bench.proofs.exports.pack.Reads as pack-reads
 
 back-requires : tie.Need-back-requires
 back-requires c κs = search needs

@@ -2,10 +2,6 @@ use Rattle.bench.proofs.Packed.{command-returns}
 use borrow.Author.Needs.{needs}
 use Rattle.bench.proofs.exports.bench_deliver.Statement.{statement}
 use Rattle.bench.proofs.exports.bench_deliver.Tie as tie
-use Rattle.bench.proofs.exports.bench_deliver.Reads as reads
-use Rattle.bench.proofs.exports.bench_deliver.Lts as lts
-use Rattle.bench.proofs.exports.pack.Reads as pack-reads
-use Rattle.forward.proofs.commands.deliver.Reads as deliver-reads
 
 deliver-requires : tie.Need-deliver-requires
 deliver-requires c κs = search needs

@@ -2,10 +2,6 @@ use Rattle.bench.proofs.Packed.{listing-returns}
 use borrow.Author.Needs.{needs}
 use Rattle.bench.proofs.exports.bench_listing.Statement.{statement}
 use Rattle.bench.proofs.exports.bench_listing.Tie as tie
-use Rattle.bench.proofs.exports.bench_listing.Reads as reads
-use Rattle.bench.proofs.exports.bench_listing.Lts as lts
-use Rattle.bench.proofs.exports.pack.Reads as pack-reads
-use Rattle.listing.proofs.listing.listing.Reads as listing-reads
 
 listing-requires : tie.Need-listing-requires
 listing-requires c κs = search needs

@@ -3,9 +3,6 @@ use Rattle.bench.proofs.LoadLaws.{load-done, load-bad-sizes, load-bad-m
 use borrow.Author.Needs.{needs}
 use Rattle.bench.proofs.exports.bench_load.Statement.{statement}
 use Rattle.bench.proofs.exports.bench_load.Tie as tie
-use Rattle.bench.proofs.exports.bench_load.Reads as reads
-use Rattle.bench.proofs.exports.bench_load.Lts as lts
-use Rattle.store.proofs.load.load.Reads as load-reads
 
 load-requires : tie.Need-load-requires
 load-requires c κs = search needs

@@ -2,10 +2,6 @@ use Rattle.bench.proofs.Packed.{command-returns}
 use borrow.Author.Needs.{needs}
 use Rattle.bench.proofs.exports.bench_spawn.Statement.{statement}
 use Rattle.bench.proofs.exports.bench_spawn.Tie as tie
-use Rattle.bench.proofs.exports.bench_spawn.Reads as reads
-use Rattle.bench.proofs.exports.bench_spawn.Lts as lts
-use Rattle.bench.proofs.exports.pack.Reads as pack-reads
-use Rattle.forward.proofs.commands.spawn.Reads as spawn-reads
 
 spawn-requires : tie.Need-spawn-requires
 spawn-requires c κs = search needs

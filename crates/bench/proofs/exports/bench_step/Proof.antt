@@ -2,10 +2,6 @@ use Rattle.bench.proofs.Packed.{command-returns}
 use borrow.Author.Needs.{needs}
 use Rattle.bench.proofs.exports.bench_step.Statement.{statement}
 use Rattle.bench.proofs.exports.bench_step.Tie as tie
-use Rattle.bench.proofs.exports.bench_step.Reads as reads
-use Rattle.bench.proofs.exports.bench_step.Lts as lts
-use Rattle.bench.proofs.exports.pack.Reads as pack-reads
-use Rattle.forward.proofs.commands.step.Reads as step-reads
 
 step-requires : tie.Need-step-requires
 step-requires c κs = search needs

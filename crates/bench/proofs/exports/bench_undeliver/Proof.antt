@@ -2,10 +2,6 @@ use Rattle.bench.proofs.Packed.{command-returns}
 use borrow.Author.Needs.{needs}
 use Rattle.bench.proofs.exports.bench_undeliver.Statement.{statement}
 use Rattle.bench.proofs.exports.bench_undeliver.Tie as tie
-use Rattle.bench.proofs.exports.bench_undeliver.Reads as reads
-use Rattle.bench.proofs.exports.bench_undeliver.Lts as lts
-use Rattle.backward.proofs.backward.undeliver.Reads as undeliver-reads
-use Rattle.bench.proofs.exports.pack.Reads as pack-reads
 
 undeliver-requires : tie.Need-undeliver-requires
 undeliver-requires c κs = search needs

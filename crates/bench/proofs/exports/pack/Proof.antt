@@ -2,10 +2,6 @@ use Rattle.bench.proofs.Packed.{pack-is}
 use borrow.Author.Needs.{needs}
 use Rattle.bench.proofs.exports.pack.Statement.{statement}
 use Rattle.bench.proofs.exports.pack.Tie as tie
-use Rattle.bench.proofs.exports.pack.Reads as reads
-use Rattle.bench.proofs.exports.pack.Lts as lts
-use Rattle.calls.proofs.answers.number.Reads as number-reads
-use Rattle.calls.proofs.answers.value.Reads as value-reads
 
 value-requires : tie.Need-value-requires
 value-requires c κs = search needs

@@ -1,6 +1,5 @@
 use borrow.Author.Needs.{needs}
-use Rattle.lists.proofs.Tests.{not-true, not-false}
-use Rattle.forward.proofs.Made.{spawn-large, spawn-nothing, spawn-done, spawn-full, grow-ready, part-length}
+use Rattle.forward.proofs.Made.{spawn-full, spawn-large, spawn-nothing, spawn-done, grow-ready, part-length}
 use Rattle.forward.proofs.making.make_spawn.Statement.{statement}
 use Rattle.forward.proofs.making.make_spawn.Tie as tie
 
@@ -16,17 +15,17 @@ enum-known-next c = search needs
 has-room-requires : tie.Need-has-room-requires
 has-room-requires c κs = search needs
 
-same-length : tie.Need-same-length
-same-length c = search needs
-
-returns : tie.Need-returns
-returns c = search (spawn-full, not-true)
-
 slice-aggregate-bear : tie.Need-slice-aggregate-bear
 slice-aggregate-bear c = search part-length
 
 bear-requires : tie.Need-bear-requires
-bear-requires c κs = search (grow-ready, not-false)
+bear-requires c κs = search grow-ready
+
+same-length : tie.Need-same-length
+same-length c = search needs
+
+returns : tie.Need-returns
+returns c = search spawn-done
 
 returns-2 : tie.Need-returns-2
 returns-2 c = search spawn-nothing
@@ -38,7 +37,7 @@ same-length-2 : tie.Need-same-length-2
 same-length-2 c = search needs
 
 returns-4 : tie.Need-returns-4
-returns-4 c = search (spawn-done, not-false)
+returns-4 c = search spawn-full
 
 pub make-spawn-spec : {M : Type 1} → statement M
 make-spawn-spec =
@@ -48,10 +47,10 @@ make-spawn-spec =
     enum-told-2
     enum-known-next
     has-room-requires
-    same-length
-    returns
     slice-aggregate-bear
     bear-requires
+    same-length
+    returns
     returns-2
     returns-3
     same-length-2

@@ -1,0 +1,123 @@
+// What undoing asks besides 01's list: a spawn is not undone while something is in flight to its child, so each send is linked with the
+// spawn of its target.
+use crate::links::put_link;
+use reading::entries::kind;
+use reading::entries::number;
+use reading::found::Found;
+use reading::mail::target;
+use reading::state::entry_count;
+use reading::state::places;
+use store::layout::SEND;
+use store::layout::SPAWN;
+ghost use mathlib.Core.Path.{_≡_};
+ghost use mathlib.Core.Option.{some};
+ghost use Prim.Native.Nat.{_+_, _*_, _≤_};
+ghost use lib.ListN.{length};
+ghost use Rattle.rules.specs.Depends.{isSpawnOf};
+ghost use Rattle.store.specs.Image.{IsImage};
+ghost use Rattle.store.specs.Layout.{kindSend};
+ghost use Rattle.reading.specs.Reads.{OfState, IsPlace, IsEntry, OfEntry};
+ghost use Rattle.rollback.specs.Links.{Tied, Links};
+ghost use Rattle.rollback.specs.Listed.{IsKind, SpawnIn, BornBy, AimsAt, AtPlace, Adds};
+
+// Where a spawn stands: its place and its number there.
+pub enum Born {
+    Nowhere,
+    By(usize, usize),
+}
+
+// Whether entry i of p is the spawn of q.
+fn is_spawn(store: &[u32], p: usize, i: usize, q: u32) -> bool
+    requires { ⌜ IsImage (now store) × OfState (now store) (IsEntry p i) ⌝ }
+    ensures { λ r. ⌜ OfState (now (store .entry)) (OfEntry p i (λ e. r ≡ isSpawnOf q (some e))) ⌝ }
+{
+    if kind(store, p, i) != SPAWN {
+        return false;
+    }
+    number(store, p, i) == q
+}
+
+// The entry of p that is the spawn of q.
+fn spawn_in(store: &[u32], p: usize, q: u32) -> Found
+    requires { ⌜ IsImage (now store) × OfState (now store) (IsPlace p) ⌝ }
+    ensures { λ r. ⌜ OfState (now (store .entry)) (SpawnIn p q r) ⌝ }
+{
+    let end = entry_count(store, p);
+    let mut i = 0;
+    while i < end {
+        if is_spawn(store, p, i, q) {
+            return Found::At(i);
+        }
+        i += 1;
+    }
+    Found::Nowhere
+}
+
+// The spawn of q.
+fn spawn_of(store: &[u32], q: u32) -> Born
+    requires { ⌜ IsImage (now store) ⌝ }
+    ensures { λ r. ⌜ OfState (now (store .entry)) (BornBy q r) ⌝ }
+{
+    let end = places(store);
+    let mut p = 0;
+    while p < end {
+        if let Found::At(i) = spawn_in(store, p, q) {
+            return Born::By(p, i);
+        }
+        p += 1;
+    }
+    Born::Nowhere
+}
+
+// The link of entry i of p, a send.
+fn aim_send(store: &[u32], p: usize, i: usize, links: &mut [usize], count: usize) -> usize
+    requires { ⌜ IsImage (now store) × OfState (now store) (IsEntry p i) × OfState (now store) (IsKind p i kindSend) × (4 * count + 4 ≤ length (now links)) ⌝ }
+    ensures { λ r. ⌜ Adds (now (store .entry)) (AimsAt p i) (now (links .entry)) (now (links .exit)) count r 1 ⌝ }
+{
+    let Born::By(u, j) = spawn_of(store, target(store, p, i)) else {
+        return count;
+    };
+    put_link(links, count, 2 * p, i, 2 * u, j);
+    count + 1
+}
+
+// Of any entry.
+fn aim_entry(store: &[u32], p: usize, i: usize, links: &mut [usize], count: usize) -> usize
+    requires { ⌜ IsImage (now store) × OfState (now store) (IsEntry p i) × (4 * count + 4 ≤ length (now links)) ⌝ }
+    ensures { λ r. ⌜ Adds (now (store .entry)) (AimsAt p i) (now (links .entry)) (now (links .exit)) count r 1 ⌝ }
+{
+    if kind(store, p, i) != SEND {
+        return count;
+    }
+    aim_send(store, p, i, links, count)
+}
+
+// Of the entries of p.
+fn aim_place(store: &[u32], p: usize, links: &mut [usize], count: usize) -> usize
+    requires { ⌜ IsImage (now store) × OfState (now store) (IsPlace p) × (4 * count + 256 ≤ length (now links)) ⌝ }
+    ensures { λ r. ⌜ Adds (now (store .entry)) (AtPlace AimsAt p) (now (links .entry)) (now (links .exit)) count r 64 ⌝ }
+{
+    let end = entry_count(store, p);
+    let mut n = count;
+    let mut i = 0;
+    while i < end {
+        n = aim_entry(store, p, i, links, n);
+        i += 1;
+    }
+    n
+}
+
+// Of all entries, behind 01's list.
+pub fn aim_all(store: &[u32], links: &mut [usize], count: usize) -> usize
+    requires { ⌜ IsImage (now store) × (length (now links) ≡ 12288) × OfState (now store) (λ s. Tied s (now links) count) × (count ≤ 2048) ⌝ }
+    ensures { λ r. ⌜ OfState (now (store .entry)) (λ s. Links s (now (links .exit)) count r) ⌝ }
+{
+    let end = places(store);
+    let mut n = count;
+    let mut p = 0;
+    while p < end {
+        n = aim_place(store, p, links, n);
+        p += 1;
+    }
+    n
+}
