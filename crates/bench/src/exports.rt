@@ -1,5 +1,6 @@
 // The calls for programs in other languages, on plain numbers and slices. Each returns value × 2^32 + number: 01's number, and the
 // position, count or length that goes with it.
+use crate::lines::line;
 use backward::backward::back;
 use backward::backward::undeliver;
 use calls::answers::Answer;
@@ -9,13 +10,14 @@ use forward::commands::deliver;
 use forward::commands::spawn;
 use forward::commands::step;
 use listing::listing::listing;
+use rollback::rollback::rollback;
 use store::load::Loaded;
 use store::load::load;
 ghost use mathlib.Core.Path.{_≡_};
 ghost use Rattle.rules.specs.Commands.{step as stepOf, spawnInto, deliver as deliverOf, back as backOf, undeliver as undeliverOf};
-ghost use Rattle.rules.specs.Line.{single};
+ghost use Rattle.rules.specs.Line.{single, rollbackTo};
 ghost use Rattle.store.specs.Sizing.{sizesOf};
-ghost use Rattle.calls.specs.Calls.{RequestCall, ListingCall, LoadCall};
+ghost use Rattle.calls.specs.Calls.{RequestCall, LineCall, ListingCall, LoadCall};
 ghost use Rattle.calls.specs.Numbers.{packed};
 ghost use Rattle.bench.specs.Exports.{returned};
 
@@ -94,4 +96,20 @@ pub extern "C" fn bench_listing(store: &[u32], out: &mut [u8]) -> u64
     ensures { λ r. ⌜ ListingCall (now (store .entry)) (now (out .entry)) (returned r (now (out .exit))) ⌝ }
 {
     pack(listing(store, out))
+}
+
+// p's newest passing of checkpoint t is undone with all that depends on it; the value is how many events that were.
+#[no_mangle]
+pub extern "C" fn bench_rollback(store: &mut [u32], p: u32, t: u32) -> u64
+    ensures { λ r. ⌜ RequestCall (rollbackTo p t) (now (store .entry)) (returned r (now (store .exit))) ⌝ }
+{
+    pack(rollback(store, p, t))
+}
+
+// One command line without its LF: 17 for a malformed one, else as the call that it asks for.
+#[no_mangle]
+pub extern "C" fn bench_line(store: &mut [u32], text: &[u8]) -> u64
+    ensures { λ r. ⌜ LineCall (now (text .entry)) (now (store .entry)) (returned r (now (store .exit))) ⌝ }
+{
+    pack(line(store, text))
 }

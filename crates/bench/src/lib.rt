@@ -1,2 +1,3 @@
-// The calls for programs in other languages.
+// The calls for programs in other languages, and command lines.
 pub mod exports;
+pub mod lines;
