@@ -1,3 +1,4 @@
 pub mod Packed
 pub mod Positions
 pub mod LoadLaws
+pub mod LineLaws

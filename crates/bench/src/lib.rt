@@ -1,2 +1,3 @@
 // The calls for programs in other languages.
 pub mod exports;
+pub mod lines;

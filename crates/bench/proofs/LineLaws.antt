@@ -1,0 +1,124 @@
+-- Laws of text commands and of what is printed for them.
+use Prim.Native.Nat.{ℕ}
+use mathlib.Core.Path.{_≡_, refl, sym, _∙_, ap}
+use mathlib.Core.Bool.{Bool, true, false, _&&_}
+use mathlib.Core.Option.{Option, none, some}
+use mathlib.Core.List.{List, [], append-nil}
+use lib.Dec.{eqb}
+use Rattle.lists.proofs.Tests.{eqb-of, eqb-apart}
+use Rattle.rules.specs.Answers.{done}
+use Rattle.rules.specs.Commands.{step, spawnInto, deliver, back, undeliver}
+use Rattle.rules.specs.Line.{Request, parseLine}
+use Rattle.rules.specs.Replies.{answerLine, undoneLine}
+use Rattle.text.specs.Requests.{requestOf}
+use Rattle.text.specs.Written.{Wrote}
+use Rattle.text.specs.declared.parsing.Line.{Line}
+use Rattle.text.specs.declared.parsing.Line.the-variants.{Step, Spawn, Deliver, Back, Undeliver, Rollback, Malformed}
+use Rattle.text.proofs.WritingLaws.{wrote-then}
+use Rattle.calls.specs.Calls.{outcome, AskedCall, LineCall}
+use Rattle.calls.specs.Numbers.{numberOf, valueOf, Performs, CommandCall, RollbackCall, TextCall}
+use Rattle.calls.specs.declared.answers.Answer.{Answer}
+use Rattle.calls.specs.declared.answers.Answer.the-variants.{BadLine}
+use Rattle.bench.specs.Replied.{rollsBack, undoneBy, replyText, Replied}
+
+-- ---- what each line asks for
+
+module _ (asked : Line) (entry exit : List ℕ) (r : Answer) where
+  abbrev Asked : Type 0
+  Asked = AskedCall (requestOf asked) entry (outcome (numberOf r) (valueOf r) exit)
+
+  pub asked-step : (p : ℕ) → asked ≡ Step p → CommandCall (step p) entry exit r → Asked
+  unfolding requestOf AskedCall CommandCall Performs
+  asked-step p e c = rw e c
+
+  pub asked-spawn : (p f : ℕ) → asked ≡ Spawn p f → CommandCall (spawnInto p f) entry exit r → Asked
+  unfolding requestOf AskedCall CommandCall Performs
+  asked-spawn p f e c = rw e c
+
+  pub asked-deliver : (s k : ℕ) → asked ≡ Deliver s k → CommandCall (deliver s k) entry exit r → Asked
+  unfolding requestOf AskedCall CommandCall Performs
+  asked-deliver s k e c = rw e c
+
+  pub asked-back : (p : ℕ) → asked ≡ Back p → CommandCall (back p) entry exit r → Asked
+  unfolding requestOf AskedCall CommandCall Performs
+  asked-back p e c = rw e c
+
+  pub asked-undeliver : (p : ℕ) → asked ≡ Undeliver p → CommandCall (undeliver p) entry exit r → Asked
+  unfolding requestOf AskedCall CommandCall Performs
+  asked-undeliver p e c = rw e c
+
+  pub asked-rollback : (p t : ℕ) → asked ≡ Rollback p t → RollbackCall p t entry exit r → Asked
+  unfolding requestOf AskedCall RollbackCall Performs
+  asked-rollback p t e c = rw e c
+
+  pub asked-line : (text : List ℕ) → requestOf asked ≡ parseLine text → Asked → TextCall text entry exit r
+  unfolding TextCall LineCall
+  asked-line text e c = rw e at c
+
+pub asked-nothing : (asked : Line) (entry : List ℕ) → asked ≡ Malformed → AskedCall (requestOf asked) entry (outcome (numberOf BadLine) (valueOf BadLine) entry)
+unfolding requestOf AskedCall numberOf valueOf
+asked-nothing asked entry e = rw e refl
+
+-- ---- whether a line asks for a rollback
+
+module _ (asked : Line) where
+  pub not-step : (p : ℕ) → asked ≡ Step p → false ≡ rollsBack (requestOf asked)
+  unfolding requestOf rollsBack
+  not-step p e = rw e refl
+
+  pub not-spawn : (p f : ℕ) → asked ≡ Spawn p f → false ≡ rollsBack (requestOf asked)
+  unfolding requestOf rollsBack
+  not-spawn p f e = rw e refl
+
+  pub not-deliver : (s k : ℕ) → asked ≡ Deliver s k → false ≡ rollsBack (requestOf asked)
+  unfolding requestOf rollsBack
+  not-deliver s k e = rw e refl
+
+  pub not-back : (p : ℕ) → asked ≡ Back p → false ≡ rollsBack (requestOf asked)
+  unfolding requestOf rollsBack
+  not-back p e = rw e refl
+
+  pub not-undeliver : (p : ℕ) → asked ≡ Undeliver p → false ≡ rollsBack (requestOf asked)
+  unfolding requestOf rollsBack
+  not-undeliver p e = rw e refl
+
+  pub a-rollback : (p t : ℕ) → asked ≡ Rollback p t → true ≡ rollsBack (requestOf asked)
+  unfolding requestOf rollsBack
+  a-rollback p t e = rw e refl
+
+  pub not-malformed : asked ≡ Malformed → false ≡ rollsBack (requestOf asked)
+  unfolding requestOf rollsBack
+  not-malformed e = rw e refl
+
+-- ---- what is printed
+
+module _ (request : Option Request) (a : Answer) (n : ℕ) (number : n ≡ numberOf a) (old : List ℕ) where
+  none-undone : (b c : Bool) → rollsBack request ≡ b → eqb (numberOf a) done ≡ c → (b && c) ≡ false → undoneBy request a ≡ none
+  unfolding undoneBy
+  none-undone b c x y e = rw (x, y, e, undoneBy) refl
+
+  plain : (new : List ℕ) (to : ℕ) → undoneBy request a ≡ none → Wrote (answerLine n) 0 old new to → Wrote (replyText request a) 0 old new to
+  unfolding replyText undoneLine
+  plain new to u w = rw (u, undoneLine, append-nil (answerLine (numberOf a))) (rw number at w)
+
+  pub wrote-refused : (new : List ℕ) (to : ℕ) → ¬ (n ≡ 0) → Wrote (answerLine n) 0 old new to → Wrote (replyText request a) 0 old new to
+  wrote-refused new to e w =
+      plain new to (none-undone (rollsBack request) false refl (eqb-apart (numberOf a) done (λ z. e (number ∙ z))) (either (rollsBack request))) w
+    where
+      either : (b : Bool) → (b && false) ≡ false
+      either true = refl
+      either false = refl
+
+  module _ (b : Bool) (rolls : b ≡ rollsBack request) where
+    pub wrote-number : (new : List ℕ) (to : ℕ) → b ≡ false → Wrote (answerLine n) 0 old new to → Wrote (replyText request a) 0 old new to
+    wrote-number new to e w = plain new to (none-undone false (eqb (numberOf a) done) (sym rolls ∙ e) refl refl) w
+
+    pub wrote-count : (mid new : List ℕ) (to end count : ℕ) → b ≡ true → n ≡ 0 → count ≡ valueOf a → Wrote (answerLine n) 0 old mid to → Wrote (undoneLine (some count)) to mid new end → Wrote (replyText request a) 0 old new end
+    unfolding replyText undoneBy
+    wrote-count mid new to end count e z c w v =
+        let u : undoneBy request a ≡ some count = rw (sym rolls ∙ e, eqb-of (numberOf a) done (sym number ∙ z), sym c, undoneBy) refl in
+        rw (u, ← number) (wrote-then w v)
+
+pub replied : (text entry exit old new : List ℕ) (end : ℕ) (asked : Line) (a : Answer) → requestOf asked ≡ parseLine text → AskedCall (requestOf asked) entry (outcome (numberOf a) (valueOf a) exit)
+    → Wrote (replyText (requestOf asked) a) 0 old new end → Replied text entry exit old new end
+replied text entry exit old new end asked a e c w = record { answer = a; call = asked-line asked entry exit a text e c; text = rw e at w }
