@@ -4,10 +4,6 @@ use lib.Seq.{length-take-le}
 use borrow.Author.Needs.{needs}
 use Rattle.bench_main.proofs.answer.Statement.{statement}
 use Rattle.bench_main.proofs.answer.Tie as tie
-use Rattle.bench_main.proofs.answer.Reads as reads
-use Rattle.bench_main.proofs.answer.Lts as lts
-use Rattle.bench_main.proofs.lines.reply.Reads as reply-reads
-use Rattle.io.proofs.write_all.Reads as write-all-reads
 
 slice-aggregate-reply : tie.Need-slice-aggregate-reply
 slice-aggregate-reply c = search needs

@@ -4,12 +4,6 @@ use lib.Seq.{length-take-le}
 use borrow.Author.Needs.{needs}
 use Rattle.bench_main.proofs.main.Statement.{statement}
 use Rattle.bench_main.proofs.main.Tie as tie
-use Rattle.bench_main.proofs.main.Reads as reads
-use Rattle.bench_main.proofs.main.Lts as lts
-use Rattle.bench_main.proofs.last_line.Reads as last-line-reads
-use Rattle.bench_main.proofs.print_listing.Reads as print-listing-reads
-use Rattle.bench_main.proofs.read_all.Reads as read-all-reads
-use Rattle.store.proofs.load.load.Reads as load-reads
 
 slice-aggregate-load : tie.Need-slice-aggregate-load
 slice-aggregate-load c = search needs

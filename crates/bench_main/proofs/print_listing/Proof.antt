@@ -4,11 +4,6 @@ use lib.Seq.{length-take-le}
 use borrow.Author.Needs.{needs}
 use Rattle.bench_main.proofs.print_listing.Statement.{statement}
 use Rattle.bench_main.proofs.print_listing.Tie as tie
-use Rattle.bench_main.proofs.print_listing.Reads as reads
-use Rattle.bench_main.proofs.print_listing.Lts as lts
-use Rattle.io.proofs.large_buffer.Reads as large-buffer-reads
-use Rattle.io.proofs.write_all.Reads as write-all-reads
-use Rattle.listing.proofs.listing.listing.Reads as listing-reads
 
 large-buffer-requires : tie.Need-large-buffer-requires
 large-buffer-requires c κs = search needs

@@ -5,9 +5,6 @@ use Prim.Native.Nat.{_≤_}
 use lib.ListN.{length}
 use Rattle.bench_main.proofs.read_all.Statement.{statement}
 use Rattle.bench_main.proofs.read_all.Tie as tie
-use Rattle.bench_main.proofs.read_all.Reads as reads
-use Rattle.bench_main.proofs.read_all.Lts as lts
-use Rattle.bench_main.proofs.read_some.Reads as read-some-reads
 
 abbrev Inv-loop : tie.InvT-loop
 Inv-loop store₀ line₀ turn₀ turns₀ store line turn turns = (length store ≡ length store₀) × (length line ≡ length line₀) × (turn .count ≤ length line₀)

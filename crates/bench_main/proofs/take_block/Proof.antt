@@ -5,9 +5,6 @@ use Prim.Native.Nat.{_≤_, _-_}
 use lib.ListN.{length}
 use Rattle.bench_main.proofs.take_block.Statement.{statement}
 use Rattle.bench_main.proofs.take_block.Tie as tie
-use Rattle.bench_main.proofs.take_block.Reads as reads
-use Rattle.bench_main.proofs.take_block.Lts as lts
-use Rattle.bench_main.proofs.take_byte.Reads as take-byte-reads
 
 abbrev Inv-loop : tie.InvT-loop
 Inv-loop store₀ line₀ count block n₀ i₀ store line n i = (length store ≡ length store₀) × (length line ≡ length line₀) × (n ≤ length line₀)

@@ -4,9 +4,6 @@ use lib.Seq.{length-take-le}
 use borrow.Author.Needs.{needs}
 use Rattle.bench_main.proofs.take_byte.Statement.{statement}
 use Rattle.bench_main.proofs.take_byte.Tie as tie
-use Rattle.bench_main.proofs.take_byte.Reads as reads
-use Rattle.bench_main.proofs.take_byte.Lts as lts
-use Rattle.bench_main.proofs.answer.Reads as answer-reads
 
 slice-reshare-prefix-answer : tie.Need-slice-reshare-prefix-answer
 slice-reshare-prefix-answer c = search needs
