@@ -8,7 +8,7 @@ use native.Mathlib.Decide.{decLt}
 use native.Mathlib.Omega.{arith}
 use lib.ListN.{length, length-append, length-drop}
 use Rattle.lists.proofs.Tests.{true-not-false, some-injective}
-use Rattle.rules.specs.State.{Message, letter, taking, Kind, seq, send, rec, spawn, self, check, asSend, asRec, asSpawn, Entry, State, historyAt}
+use Rattle.rules.specs.State.{Message, Letter, letter, taking, Kind, seq, send, rec, spawn, self, check, asSend, asRec, asSpawn, Entry, State, historyAt}
 use Rattle.rules.specs.Flight.{sends, taken}
 use Rattle.rules.specs.Sound.{SpawnedBy, SentTo, Sound}
 use Rattle.rules.specs.Depends.{Line, entriesOf, deliveriesTo, level}
@@ -23,7 +23,7 @@ use Rattle.store.specs.Layout.{kindNumber, numberIn, kindSend, kindRec, kindSpa
 use Rattle.store.specs.Image.{IsImage}
 use Rattle.store.proofs.SoundStates.{sizes-in, numbered}
 use Rattle.reading.specs.Reads.{Holds, OfState, IsPlace, IsEntry, OfEntry, IsSend, OfSend, oldest}
-use Rattle.reading.proofs.Oldest.{parted}
+use Rattle.reading.proofs.Oldest.{send-by-kind, rec-by-kind, parted}
 use Rattle.reading.proofs.MailReads.{sends-low}
 use Rattle.reading.specs.declared.found.Found.the-variants.{Nowhere, At}
 use Rattle.rollback.specs.Listed.{IsKind, OfRec, ArrivalIs, putLink, TiesAt, rec-at, since-at, send-at, child-at, mail-at, AimsAt, aim-at, Adds}
@@ -32,22 +32,14 @@ use Rattle.rollback.proofs.LinkAdds.{SameLink, Just, Two, adds-none, ad
 
 -- ---- kinds
 pub rec-of : (kind : Kind) → kindNumber kind ≡ kindRec → (a : List Message) × (m : Message) × (d : List Message) × (asRec kind ≡ some (taking a m d))
-unfolding kindNumber asRec
-rec-of seq e = absurd (omega (arith, e))
-rec-of (send t v) e = absurd (omega (arith, e))
-rec-of (rec a m d) e = (a, m, d, refl)
-rec-of (spawn q) e = absurd (omega (arith, e))
-rec-of self e = absurd (omega (arith, e))
-rec-of (check n) e = absurd (omega (arith, e))
+unfolding asRec
+rec-of kind e = let (a, m, d, i) = rec-by-kind kind e in (a, m, d, ap asRec i)
 
 send-of : (kind : Kind) → kindNumber kind ≡ kindSend → (t : ℕ) × (v : List ℕ) × (asSend kind ≡ some (letter t v))
-unfolding kindNumber asSend
-send-of seq e = absurd (omega (arith, e))
-send-of (send t v) e = (t, v, refl)
-send-of (rec a m d) e = absurd (omega (arith, e))
-send-of (spawn q) e = absurd (omega (arith, e))
-send-of self e = absurd (omega (arith, e))
-send-of (check n) e = absurd (omega (arith, e))
+send-of kind e = let (l, i) = send-by-kind kind e in go l i
+  where
+    go : (l : Letter) → asSend kind ≡ some l → (t : ℕ) × (v : List ℕ) × (asSend kind ≡ some (letter t v))
+    go (letter t v) i = (t, v, i)
 
 pub spawn-kind : (kind : Kind) → kindNumber kind ≡ kindSpawn → asSpawn kind ≡ some (numberIn kind)
 unfolding kindNumber asSpawn numberIn

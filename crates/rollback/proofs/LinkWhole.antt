@@ -47,10 +47,6 @@ module _ (store : List ℕ) (is-image : IsImage store) where
   come-low p n count = count (is-image .state) (is-image .rest) one .few
 
 module _ (store : List ℕ) where
-  pub entry-is : (p i end : ℕ) → OfState store (λ s. end ≡ length (historyAt s p)) → i < end → OfState store (IsEntry p i)
-  unfolding OfState
-  entry-is p i end ends h s rest holds = omega (arith, ends s rest holds, h)
-
   pub entry-upto : (p i : ℕ) → OfState store (IsEntry p i) → OfState store (λ s. i ≤ length (historyAt s p))
   unfolding OfState
   entry-upto p i there-is s rest holds = omega (arith, there-is s rest holds)
@@ -58,10 +54,6 @@ module _ (store : List ℕ) where
   pub end-upto : (p end : ℕ) → OfState store (λ s. end ≡ length (historyAt s p)) → OfState store (λ s. end ≤ length (historyAt s p))
   unfolding OfState
   end-upto p end ends s rest holds = omega (arith, ends s rest holds)
-
-  pub place-is : (p end : ℕ) → OfState store (λ s. end ≡ s .sizes .places) → p < end → OfState store (IsPlace p)
-  unfolding OfState
-  place-is p end ends h s rest holds = omega (arith, ends s rest holds, h)
 
   pub entry-is-place : (p i : ℕ) → OfState store (IsEntry p i) → OfState store (IsPlace p)
   unfolding OfState

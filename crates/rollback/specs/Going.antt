@@ -101,7 +101,7 @@ pub record TakesBack (s : State) (rest exit : List ℕ) (back : RolledBack) (r :
 unfoldable pub OfWords : List ℕ → (State → List ℕ → Type 0) → Type 0
 OfWords l P = (s : State) (rest : List ℕ) → Holds l s rest → P s rest
 
--- the cut can be reached, and it is the state that the rollback gives
+-- the words hold the state that undoing down to the cut gives
 pub record Leaves (s : State) (cut : Cut) (rest exit : List ℕ) : Type 0 where
   pub leaves : exit ≡ image (endOf s (undoTo s cut)) ++ rest
 

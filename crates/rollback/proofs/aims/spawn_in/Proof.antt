@@ -1,9 +1,9 @@
 -- `rollback::aims::spawn_in` meets its contract.
+use Rattle.reading.proofs.MailReads.{end-entry}
 use Prim.Native.Nat.{_-_, _≤_}
 use native.Mathlib.Omega.{arith}
 use borrow.Author.Needs.{needs}
 use Rattle.rollback.proofs.SpawnReads.{Unspawned, unspawned-start, spawn-here, unspawned-on, unspawned-all}
-use Rattle.rollback.proofs.LinkWhole.{entry-is}
 use Rattle.rollback.proofs.aims.spawn_in.Statement.{statement}
 use Rattle.rollback.proofs.aims.spawn_in.Tie as tie
 
@@ -21,10 +21,10 @@ loop-holds : tie.Need-loop-holds Inv-loop μ-loop
 loop-holds c = (omega arith, unspawned-start _ _ _)
 
 is-spawn-requires : tie.Need-is-spawn-requires Inv-loop μ-loop
-is-spawn-requires c κs = (c .before .before .before .before .pre .0, (entry-is _ _ _ _ (c .before .before .entry-count .ensures) (c .loop-test .taken)))
+is-spawn-requires c κs = (c .before .before .before .before .pre .0, (end-entry _ _ _ _ (c .before .before .entry-count .ensures) (c .loop-test .taken)))
 
 returns : tie.Need-returns Inv-loop μ-loop
-returns c = spawn-here _ _ _ _ _ (c .before .is-spawn .ensures) (entry-is _ _ _ _ (c .before .before .before .before .entry-count .ensures) (c .before .before .loop-test .taken)) (c .if1 .taken)
+returns c = spawn-here _ _ _ _ _ (c .before .is-spawn .ensures) (end-entry _ _ _ _ (c .before .before .before .before .entry-count .ensures) (c .before .before .loop-test .taken)) (c .if1 .taken)
 
 add-i : tie.Need-add-i Inv-loop μ-loop
 add-i c = search needs

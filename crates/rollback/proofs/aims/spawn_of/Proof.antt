@@ -1,4 +1,5 @@
 -- `rollback::aims::spawn_of` meets its contract.
+use Rattle.reading.proofs.FlightReads.{end-place}
 use mathlib.Core.Path.{subst}
 use Rattle.rollback.specs.Listed.{SpawnIn}
 use Rattle.reading.specs.declared.found.Found.{Found}
@@ -7,7 +8,6 @@ use Prim.Native.Nat.{_-_, _≤_}
 use native.Mathlib.Omega.{arith}
 use borrow.Author.Needs.{needs}
 use Rattle.rollback.proofs.SpawnReads.{Unborn, unborn-start, born-here, unborn-on, unborn-all}
-use Rattle.rollback.proofs.LinkWhole.{place-is}
 use Rattle.rollback.proofs.aims.spawn_of.Statement.{statement}
 use Rattle.rollback.proofs.aims.spawn_of.Tie as tie
 
@@ -25,7 +25,7 @@ loop-holds : tie.Need-loop-holds Inv-loop μ-loop
 loop-holds c = (omega arith, unborn-start _ _)
 
 spawn-in-requires : tie.Need-spawn-in-requires Inv-loop μ-loop
-spawn-in-requires c κs = (c .before .before .before .before .pre, place-is _ _ _ (c .before .before .places .ensures) (c .loop-test .taken))
+spawn-in-requires c κs = (c .before .before .before .before .pre, end-place _ _ _ (c .before .before .places .ensures) (c .loop-test .taken))
 
 enum-known-i : tie.Need-enum-known-i Inv-loop μ-loop
 enum-known-i c = search needs

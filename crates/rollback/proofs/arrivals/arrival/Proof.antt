@@ -1,4 +1,5 @@
 -- `rollback::arrivals::arrival` meets its contract.
+use Rattle.reading.proofs.MailReads.{end-entry}
 use mathlib.Core.Path.{subst, _≡_}
 use Rattle.reading.specs.declared.found.Found.the-variants.{At}
 use Rattle.rollback.specs.Listed.{PlaceFrom}
@@ -7,7 +8,7 @@ use native.Mathlib.Omega.{arith}
 use lib.ListN.{length}
 use borrow.Author.Needs.{needs}
 use Rattle.rollback.proofs.ArrivalReads.{LeftIs, Unshown, left-start, unshown-start, left-more, unshown-more, shown-here, queued-here, queued-nowhere}
-use Rattle.rollback.proofs.LinkWhole.{entry-is, entry-upto, end-upto, end-low}
+use Rattle.rollback.proofs.LinkWhole.{entry-upto, end-upto, end-low}
 use Rattle.rollback.proofs.arrivals.arrival.Statement.{statement}
 use Rattle.rollback.proofs.arrivals.arrival.Tie as tie
 
@@ -39,7 +40,7 @@ loop-holds : tie.Need-loop-holds Inv-loop μ-loop
 loop-holds c = (omega arith, left-start _ _, unshown-start _ _ _)
 
 queue-before-requires : tie.Need-queue-before-requires Inv-loop μ-loop
-queue-before-requires c κs = (c .before .before .before .before .pre .0, (entry-is _ _ _ _ (c .before .before .entry-count .ensures) (c .loop-test .taken)))
+queue-before-requires c κs = (c .before .before .before .before .pre .0, (end-entry _ _ _ _ (c .before .before .entry-count .ensures) (c .loop-test .taken)))
 
 place-from-requires : tie.Need-place-from-requires Inv-loop μ-loop
 place-from-requires c κs = search needs
@@ -48,19 +49,19 @@ enum-known-j : tie.Need-enum-known-j Inv-loop μ-loop
 enum-known-j c = search needs
 
 recs-before-requires : tie.Need-recs-before-requires Inv-loop μ-loop
-recs-before-requires c κs = (c .before .before .before .before .before .before .before .before .before .pre .0, entry-upto _ _ _ (entry-is _ _ _ _ (c .before .before .before .before .before .before .before .entry-count .ensures) (c .before .before .before .before .before .loop-test .taken)))
+recs-before-requires c κs = (c .before .before .before .before .before .before .before .before .before .pre .0, entry-upto _ _ _ (end-entry _ _ _ _ (c .before .before .before .before .before .before .before .entry-count .ensures) (c .before .before .before .before .before .loop-test .taken)))
 
 add-t13 : tie.Need-add-t13 Inv-loop μ-loop
 add-t13 c = let h = inside (c .before) in let g = end-low _ (c .before .before .before .before .before .before .before .before .before .before .pre .0) _ _ (c .before .before .before .before .before .before .before .before .entry-count .ensures) in omega (arith, h, g, c .recs-before .ensures .1)
 
 returns : tie.Need-returns Inv-loop μ-loop
-returns c = shown-here (c .before .before .before .before .before .before .before .before .before .before .args .store .now) (c .before .before .before .before .before .before .before .before .before .before .args .q) (c .before .before .before .before .before .before .before .loop .i) (c .before .before .before .before .before .before .before .loop .left) (c .before .before .before .before .before .before .before .before .before .before .args .name) (c .before .before .before .before .before .queue-before .result .now) (entry-is _ _ _ _ (c .before .before .before .before .before .before .before .before .entry-count .ensures) (c .before .before .before .before .before .before .loop-test .taken)) (c .before .before .before .before .before .before .before .loop .inv .1) (c .before .before .before .before .before .queue-before .ensures) _ _ (placed (c .before)) (c .recs-before .ensures .0)
+returns c = shown-here (c .before .before .before .before .before .before .before .before .before .before .args .store .now) (c .before .before .before .before .before .before .before .before .before .before .args .q) (c .before .before .before .before .before .before .before .loop .i) (c .before .before .before .before .before .before .before .loop .left) (c .before .before .before .before .before .before .before .before .before .before .args .name) (c .before .before .before .before .before .queue-before .result .now) (end-entry _ _ _ _ (c .before .before .before .before .before .before .before .before .entry-count .ensures) (c .before .before .before .before .before .before .loop-test .taken)) (c .before .before .before .before .before .before .before .loop .inv .1) (c .before .before .before .before .before .queue-before .ensures) _ _ (placed (c .before)) (c .recs-before .ensures .0)
 
 enum-told : tie.Need-enum-told Inv-loop μ-loop
 enum-told c = search needs
 
 left-at-requires : tie.Need-left-at-requires Inv-loop μ-loop
-left-at-requires c κs = (c .before .before .before .before .before .before .before .before .pre .0, (entry-is _ _ _ _ (c .before .before .before .before .before .before .entry-count .ensures) (c .before .before .before .before .loop-test .taken)))
+left-at-requires c κs = (c .before .before .before .before .before .before .before .before .pre .0, (end-entry _ _ _ _ (c .before .before .before .before .before .before .entry-count .ensures) (c .before .before .before .before .loop-test .taken)))
 
 add-i : tie.Need-add-i Inv-loop μ-loop
 add-i c = search needs
@@ -71,8 +72,8 @@ loop-less c = search needs
 loop-again : tie.Need-loop-again Inv-loop μ-loop
 loop-again c = (
   omega arith,
-  left-more (c .before .before .before .before .before .before .before .before .before .args .store .now) (c .before .before .before .before .before .before .before .before .before .args .q) (c .before .before .before .before .before .before .loop .i) (c .before .before .before .before .before .before .loop .left) (c .before .before .before .before .before .before .before .before .before .args .name) (c .before .before .before .before .queue-before .result .now) (entry-is _ _ _ _ (c .before .before .before .before .before .before .before .entry-count .ensures) (c .before .before .before .before .before .loop-test .taken)) (c .before .before .before .before .before .before .loop .inv .1) (c .before .before .before .before .queue-before .ensures) _ (c .left-at .ensures),
-  unshown-more (c .before .before .before .before .before .before .before .before .before .args .store .now) (c .before .before .before .before .before .before .before .before .before .args .q) (c .before .before .before .before .before .before .loop .i) (c .before .before .before .before .before .before .loop .left) (c .before .before .before .before .before .before .before .before .before .args .name) (c .before .before .before .before .queue-before .result .now) (entry-is _ _ _ _ (c .before .before .before .before .before .before .before .entry-count .ensures) (c .before .before .before .before .before .loop-test .taken)) (c .before .before .before .before .before .before .loop .inv .1) (c .before .before .before .before .queue-before .ensures) (c .before .before .before .before .before .before .loop .inv .2)
+  left-more (c .before .before .before .before .before .before .before .before .before .args .store .now) (c .before .before .before .before .before .before .before .before .before .args .q) (c .before .before .before .before .before .before .loop .i) (c .before .before .before .before .before .before .loop .left) (c .before .before .before .before .before .before .before .before .before .args .name) (c .before .before .before .before .queue-before .result .now) (end-entry _ _ _ _ (c .before .before .before .before .before .before .before .entry-count .ensures) (c .before .before .before .before .before .loop-test .taken)) (c .before .before .before .before .before .before .loop .inv .1) (c .before .before .before .before .queue-before .ensures) _ (c .left-at .ensures),
+  unshown-more (c .before .before .before .before .before .before .before .before .before .args .store .now) (c .before .before .before .before .before .before .before .before .before .args .q) (c .before .before .before .before .before .before .loop .i) (c .before .before .before .before .before .before .loop .left) (c .before .before .before .before .before .before .before .before .before .args .name) (c .before .before .before .before .queue-before .result .now) (end-entry _ _ _ _ (c .before .before .before .before .before .before .before .entry-count .ensures) (c .before .before .before .before .before .loop-test .taken)) (c .before .before .before .before .before .before .loop .inv .1) (c .before .before .before .before .queue-before .ensures) (c .before .before .before .before .before .before .loop .inv .2)
       (subst (PlaceFrom (c .before .before .before .before .queue-before .result .now) (c .before .before .before .before .before .before .loop .left) (c .before .before .before .before .before .before .before .before .before .args .name)) (c .before .enum-told .given .1) (c .before .before .before .place-from .ensures)),
 )
 

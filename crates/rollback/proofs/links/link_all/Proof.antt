@@ -1,10 +1,11 @@
 -- `rollback::links::link_all` meets its contract.
+use Rattle.reading.proofs.FlightReads.{end-place}
 use Rattle.rollback.proofs.LinkAdds.{adds-most, place-none, place-more}
 use Prim.Native.Nat.{_*_, _-_, _≤_}
 use native.Mathlib.Omega.{arith}
 use borrow.Author.Needs.{needs}
 use Rattle.rollback.specs.Listed.{TiesAt, BelowPlace, Adds}
-use Rattle.rollback.proofs.LinkWhole.{place-is, places-low, ties-whole}
+use Rattle.rollback.proofs.LinkWhole.{places-low, ties-whole}
 use Rattle.rollback.proofs.links.link_all.Statement.{statement}
 use Rattle.rollback.proofs.links.link_all.Tie as tie
 
@@ -22,7 +23,7 @@ loop-holds : tie.Need-loop-holds Inv-loop μ-loop
 loop-holds c = (omega arith, place-none _ _ _ _)
 
 link-place-requires : tie.Need-link-place-requires Inv-loop μ-loop
-link-place-requires c κs = let g = places-low _ (c .before .before .before .before .before .before .pre .0) _ (c .before .before .before .places .ensures) in let u = c .before .before .loop .inv .1 in (c .before .before .before .before .before .before .pre .0, place-is _ _ _ (c .before .before .before .places .ensures) (c .before .loop-test .taken), omega (arith, g, u .high, u .long, c .before .before .before .before .before .before .pre .1))
+link-place-requires c κs = let g = places-low _ (c .before .before .before .before .before .before .pre .0) _ (c .before .before .before .places .ensures) in let u = c .before .before .loop .inv .1 in (c .before .before .before .before .before .before .pre .0, end-place _ _ _ (c .before .before .before .places .ensures) (c .before .loop-test .taken), omega (arith, g, u .high, u .long, c .before .before .before .before .before .before .pre .1))
 
 add-p : tie.Need-add-p Inv-loop μ-loop
 add-p c = search needs

@@ -1,10 +1,11 @@
 -- `rollback::links::link_place` meets its contract.
+use Rattle.reading.proofs.MailReads.{end-entry}
 use Prim.Native.Nat.{_*_, _-_, _≤_}
 use native.Mathlib.Omega.{arith}
 use borrow.Author.Needs.{needs}
 use Rattle.rollback.specs.Listed.{TiesAt, Below, Adds}
 use Rattle.rollback.proofs.LinkAdds.{below-none, below-more, below-all, adds-most}
-use Rattle.rollback.proofs.LinkWhole.{entry-is, end-low, ties-inside}
+use Rattle.rollback.proofs.LinkWhole.{end-low, ties-inside}
 use Rattle.rollback.proofs.links.link_place.Statement.{statement}
 use Rattle.rollback.proofs.links.link_place.Tie as tie
 
@@ -22,7 +23,7 @@ loop-holds : tie.Need-loop-holds Inv-loop μ-loop
 loop-holds c = (omega arith, below-none _ _ _ _ _)
 
 link-entry-requires : tie.Need-link-entry-requires Inv-loop μ-loop
-link-entry-requires c κs = let g = end-low _ (c .before .before .before .before .before .before .pre .0) _ _ (c .before .before .before .entry-count .ensures) in let u = c .before .before .loop .inv .1 in (c .before .before .before .before .before .before .pre .0, (entry-is _ _ _ _ (c .before .before .before .entry-count .ensures) (c .before .loop-test .taken)), omega (arith, g, u .high, u .long, c .before .before .before .before .before .before .pre .2))
+link-entry-requires c κs = let g = end-low _ (c .before .before .before .before .before .before .pre .0) _ _ (c .before .before .before .entry-count .ensures) in let u = c .before .before .loop .inv .1 in (c .before .before .before .before .before .before .pre .0, (end-entry _ _ _ _ (c .before .before .before .entry-count .ensures) (c .before .loop-test .taken)), omega (arith, g, u .high, u .long, c .before .before .before .before .before .before .pre .2))
 
 add-i : tie.Need-add-i Inv-loop μ-loop
 add-i c = search needs
