@@ -5,7 +5,7 @@ help:
 	@echo 'make run          run the program bench on its example'
 	@echo 'make test         prove every crate, run every program, try every must-fail edit'
 	@echo 'make viewer       build viewer/viewer, a terminal viewer in C over the proved library'
-	@echo 'make viewer-test  run the viewer on the tour under the address and undefined-behaviour sanitizers'
+	@echo 'make viewer-test  run the viewer on the tour and the corpus under the address and undefined-behaviour sanitizers'
 	@echo 'make outside      hold the proved library against an independent implementation in Rust'
 	@echo 'make speed        time each call against that implementation and a plain pass'
 
@@ -24,7 +24,7 @@ viewer: library
 
 viewer-test: library
 	$(CC) -std=c11 -g -Wall -Wextra -fsanitize=address,undefined -fno-sanitize-recover -o viewer/viewer-checked viewer/viewer.c target/staticlib/libbench.a
-	./viewer/viewer-checked viewer/drives.hex 5 16 64 < viewer/drives.txt > /dev/null
+	viewer/try.sh ./viewer/viewer-checked
 
 outside: library
 	cd outside && cargo run --release --quiet -- compare

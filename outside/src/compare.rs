@@ -14,11 +14,20 @@ pub struct Tally {
     pub stores: u64,
     pub listings: u64,
     pub lines: u64,
+    /// rollbacks at states after a load, and at sound states that no load need reach; how many of each were accepted and held
+    pub rollbacks: [u64; 3],
+    pub altered: [u64; 3],
 }
 
 impl Tally {
     fn note(&mut self, number: u32) {
         self.answers[number as usize] += 1;
+    }
+
+    fn note_rollback(counts: &mut [u64; 3], number: u32) {
+        counts[0] += 1;
+        counts[1] += u64::from(number == DONE);
+        counts[2] += u64::from(number == HELD);
     }
 }
 
@@ -89,6 +98,21 @@ fn compare_damaged(random: &mut Random, store: &[u32], tally: &mut Tally) {
     tally.stores += 1;
 }
 
+/// A sound state that a load need not reach: entries turned into checkpoints, children exchanged, controls before replaced; and a rollback there.
+fn compare_altered(random: &mut Random, s: &State, past: usize, tally: &mut Tally) {
+    let mut odd = s.clone();
+    for _ in 0..1 + random.below(4) {
+        random::alter(random, &mut odd);
+    }
+    let mut store = encode(&odd);
+    store.extend(vec![7; past]);
+    let Some(sound) = decode(&store) else { return };
+    let c = random::rollback(random, &sound);
+    let (number, _) = both("altered", &mut store, |s| image::call(s, c), |s| linked::call(s, c));
+    tally.note(number);
+    Tally::note_rollback(&mut tally.altered, number);
+}
+
 fn one_module(random: &mut Random, tally: &mut Tally) {
     let sizes = if random.once_in(12) { Sizes { places: random.below(18), entries: random.below(67), words: random.pick(&[0, 15, 16, 255, 256]) } } else { random::sizes(random) };
     let good = random::module(random);
@@ -114,6 +138,12 @@ fn one_module(random: &mut Random, tally: &mut Tally) {
         } else {
             let (number, _) = both("call", &mut store, |s| image::call(s, c), |s| linked::call(s, c));
             tally.note(number);
+            if let Command::Rollback(_, _) = c {
+                Tally::note_rollback(&mut tally.rollbacks, number);
+            }
+        }
+        if random.once_in(2) {
+            compare_altered(random, &s, PAST, tally);
         }
         if random.once_in(5) {
             compare_listing(random, &store, tally);

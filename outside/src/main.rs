@@ -54,6 +54,10 @@ fn compared(words: &[String]) -> Option<()> {
     let tally = compare::compare(seed, modules);
     println!("{modules} modules from seed {seed}: no difference");
     println!("damaged stores {}, listings {}, command lines {}", tally.stores, tally.listings, tally.lines);
+    let [all, done, held] = tally.rollbacks;
+    println!("rollbacks after a load {all}: {done} accepted, {held} held");
+    let [all, done, held] = tally.altered;
+    println!("rollbacks at altered sound states {all}: {done} accepted, {held} held");
     for (number, count) in tally.answers.iter().enumerate() {
         println!("answer {number:2}: {count}");
     }

@@ -97,7 +97,7 @@ impl Writer<'_> {
         if fuel == 0 {
             return self.simple(scope);
         }
-        match self.random.below(20) {
+        match self.random.below(23) {
             0 => node(CALL, self.random.below(9) as u32, vec![self.expression(fuel / 3, scope), self.expression(fuel / 3, scope)]),
             1 => node(CONS, 0, vec![self.expression(fuel / 2, scope), self.expression(fuel / 2, scope)]),
             2 => {
@@ -129,7 +129,7 @@ impl Writer<'_> {
                 node(SEND, 0, vec![target, self.expression(fuel / 2, scope)])
             }
             17 => leaf(OWN, 0),
-            18 if self.checks < 255 => {
+            18..=21 if self.checks < 255 => {
                 self.checks += 1;
                 leaf(CHECK, self.checks)
             }
@@ -195,13 +195,47 @@ pub fn command(random: &mut Random, s: &State) -> Command {
         }
         11 | 12 => Command::Back(p),
         13 => Command::Undeliver(p),
-        _ => {
-            let checks: Vec<(u32, u32)> = s.pool.iter().enumerate().flat_map(|(q, x)| x.iter().flat_map(move |x| x.history.iter().filter_map(move |e| if let Kind::Check { number } = e.kind { Some((q as u32, number)) } else { None }))).collect();
-            if checks.is_empty() || random.once_in(8) {
-                return Command::Rollback(p, random.below(5) as u32);
+        _ => rollback(random, s),
+    }
+}
+
+/// A rollback, mostly to a checkpoint that was passed.
+pub fn rollback(random: &mut Random, s: &State) -> Command {
+    let mut checks = Vec::new();
+    for (q, x) in s.pool.iter().enumerate() {
+        for e in x.iter().flat_map(|x| &x.history) {
+            if let Kind::Check { number } = e.kind {
+                checks.push((q as u32, number));
             }
-            let (q, t) = random.pick(&checks);
-            Command::Rollback(q, t)
         }
+    }
+    if checks.is_empty() || random.once_in(8) {
+        return Command::Rollback(random.below(s.sizes.places + 1) as u32, random.below(5) as u32);
+    }
+    let (q, t) = random.pick(&checks);
+    Command::Rollback(q, t)
+}
+
+/// Something of a state changed that soundness does not always tie to the rest.
+pub fn alter(random: &mut Random, s: &mut State) {
+    let places: Vec<(usize, usize)> = s.pool.iter().enumerate().flat_map(|(p, x)| (0..x.as_ref().map_or(0, |x| x.history.len())).map(move |i| (p, i))).collect();
+    if places.is_empty() {
+        return;
+    }
+    let spawns: Vec<(usize, usize)> = places.iter().copied().filter(|(p, i)| matches!(s.pool[*p].as_ref().expect("a process").history[*i].kind, Kind::Spawn { .. })).collect();
+    let among = if spawns.len() > 1 && random.once_in(2) { &spawns } else { &places };
+    let (p, i) = random.pick(among);
+    let (q, j) = random.pick(among);
+    let there = s.pool[q].as_ref().expect("a process").history[j].clone();
+    let here = &mut s.pool[p].as_mut().expect("a process").history[i];
+    match (&here.kind, &there.kind) {
+        (Kind::Spawn { child }, Kind::Spawn { child: other }) => {
+            let (a, b) = (*child, *other);
+            here.kind = Kind::Spawn { child: b };
+            s.pool[q].as_mut().expect("a process").history[j].kind = Kind::Spawn { child: a };
+        }
+        (Kind::Seq | Kind::Own | Kind::Check { .. }, _) => here.kind = Kind::Check { number: random.below(4) as u32 },
+        (Kind::Rec { .. }, _) => here.before = there.before,
+        _ => {}
     }
 }
