@@ -1,10 +1,14 @@
 -- Laws of text commands and of what is printed for them.
-use Prim.Native.Nat.{ℕ}
+use Prim.Native.Nat.{ℕ, _<_}
 use mathlib.Core.Path.{_≡_, refl, sym, _∙_, ap}
 use mathlib.Core.Bool.{Bool, true, false, _&&_}
 use mathlib.Core.Option.{Option, none, some}
 use mathlib.Core.List.{List, [], append-nil}
+use native.Mathlib.Decide.{decLe}
+use native.Mathlib.Omega.{arith}
 use lib.Dec.{eqb}
+use lib.ListN.{length, take}
+use lib.Seq.{take-all, length-take-le}
 use Rattle.lists.proofs.Tests.{eqb-of, eqb-apart}
 use Rattle.rules.specs.Answers.{done}
 use Rattle.rules.specs.Commands.{step, spawnInto, deliver, back, undeliver}
@@ -14,6 +18,7 @@ use Rattle.text.specs.Requests.{requestOf}
 use Rattle.text.specs.Written.{Wrote}
 use Rattle.text.specs.declared.parsing.Line.{Line}
 use Rattle.text.specs.declared.parsing.Line.the-variants.{Step, Spawn, Deliver, Back, Undeliver, Rollback, Malformed}
+use Rattle.text.proofs.LongLines.{parse-long}
 use Rattle.text.proofs.WritingLaws.{wrote-then}
 use Rattle.calls.specs.Calls.{outcome, AskedCall, LineCall}
 use Rattle.calls.specs.Numbers.{numberOf, valueOf, Performs, CommandCall, RollbackCall, TextCall}
@@ -122,3 +127,10 @@ module _ (request : Option Request) (a : Answer) (n : ℕ) (number : n ≡ numbe
 pub replied : (text entry exit old new : List ℕ) (end : ℕ) (asked : Line) (a : Answer) → requestOf asked ≡ parseLine text → AskedCall (requestOf asked) entry (outcome (numberOf a) (valueOf a) exit)
     → Wrote (replyText (requestOf asked) a) 0 old new end → Replied text entry exit old new end
 replied text entry exit old new end asked a e c w = record { answer = a; call = asked-line asked entry exit a text e c; text = rw e at w }
+
+-- A line of which only the first bytes are kept, more than any good line has, asks for what the whole line asks for.
+pub cut-line : (line : List ℕ) (n : ℕ) → 16 < n → parseLine (take n line) ≡ parseLine line
+cut-line line n h = elim (decLe (length line) n) [
+  | yes l ↦ ap parseLine (take-all n line l)
+  | no g ↦ parse-long (take n line) (let k = length-take-le n line (omega arith) in omega arith) ∙ sym (parse-long line (omega arith))
+]

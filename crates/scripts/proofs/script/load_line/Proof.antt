@@ -4,10 +4,6 @@ use lib.Seq.{length-take-le}
 use borrow.Author.Needs.{needs}
 use Rattle.scripts.proofs.script.load_line.Statement.{statement}
 use Rattle.scripts.proofs.script.load_line.Tie as tie
-use Rattle.scripts.proofs.script.load_line.Reads as reads
-use Rattle.scripts.proofs.script.load_line.Lts as lts
-use Rattle.scripts.proofs.script.load_words.Reads as load-words-reads
-use Rattle.scripts.proofs.script.read_words.Reads as read-words-reads
 
 slice-aggregate-read-words : tie.Need-slice-aggregate-read-words
 slice-aggregate-read-words c = search needs

@@ -3,14 +3,6 @@ use native.Mathlib.Omega.{arith}
 use borrow.Author.Needs.{needs}
 use Rattle.scripts.proofs.script.perform.Statement.{statement}
 use Rattle.scripts.proofs.script.perform.Tie as tie
-use Rattle.scripts.proofs.script.perform.Reads as reads
-use Rattle.scripts.proofs.script.perform.Lts as lts
-use Rattle.scripts.proofs.script.clear.Reads as clear-reads
-use Rattle.scripts.proofs.script.command.Reads as command-reads
-use Rattle.scripts.proofs.script.list_line.Reads as list-line-reads
-use Rattle.scripts.proofs.script.load_line.Reads as load-line-reads
-use Rattle.scripts.proofs.script.short_line.Reads as short-line-reads
-use Rattle.text.proofs.parsing.begins.Reads as begins-reads
 
 slice-aggregate-begins : tie.Need-slice-aggregate-begins
 slice-aggregate-begins c = search needs

@@ -5,9 +5,6 @@ use Prim.Native.Nat.{_≤_, _-_}
 use lib.ListN.{length}
 use Rattle.scripts.proofs.script.read_words.Statement.{statement}
 use Rattle.scripts.proofs.script.read_words.Tie as tie
-use Rattle.scripts.proofs.script.read_words.Reads as reads
-use Rattle.scripts.proofs.script.read_words.Lts as lts
-use Rattle.scripts.proofs.script.word.Reads as word-reads
 
 abbrev Inv-loop : tie.InvT-loop
 Inv-loop text words₀ n₀ at₀ words n at = (length words ≡ length words₀) × (at ≤ length text)
