@@ -118,6 +118,36 @@ fn calls(s: &State, pass: f64) {
     report("load", time(&store, |l| linked::load(&s.module, p, h, w, l)), time(&store, |l| image::load(&s.module, p, h, w, l)), pass);
 }
 
+/// Rollbacks of about so many events, each against `back` on the same store: a plain step of some process is made a checkpoint, which soundness allows.
+fn rollbacks(s: &State) {
+    let store = encode(s);
+    let undo = accepted(s, Command::Back);
+    let back = time(&store, |l| linked::call(l, undo));
+    let mut seen: Vec<(u32, State, u32)> = Vec::new();
+    for p in [s.sizes.places - 1, s.sizes.places / 2, 0] {
+        let len = s.pool[p].as_ref().map_or(0, |x| x.history.len());
+        for depth in [1, 2, 3, 4, 6, 8, 12, 16, 24, 32, 40, 48, 56, 64] {
+            let mut odd = s.clone();
+            let Some(e) = len.checked_sub(depth).and_then(|i| odd.pool[p].as_mut().map(|x| &mut x.history[i])) else { continue };
+            if !matches!(e.kind, Kind::Seq | Kind::Own | Kind::Check { .. }) {
+                continue;
+            }
+            e.kind = Kind::Check { number: 200 };
+            let mut copy = encode(&odd);
+            let (number, count) = linked::call(&mut copy, Command::Rollback(p as u32, 200));
+            if number == DONE {
+                seen.push((count, odd, p as u32));
+            }
+        }
+    }
+    for wanted in [1, 10, 100, 1000] {
+        let Some((count, odd, p)) = seen.iter().min_by_key(|(count, _, _)| count.abs_diff(wanted)) else { continue };
+        let store = encode(odd);
+        let t = time(&store, |l| linked::call(l, Command::Rollback(*p, 200)));
+        println!("  rollback of {count:>4} events {t:>10.1} us {:>8.2} x back", t / back);
+    }
+}
+
 fn grows(what: &str, sizes: &[Sizes]) {
     println!("{what}:");
     for &z in sizes {
@@ -137,6 +167,7 @@ pub fn speed() {
         let entries_made: usize = s.pool.iter().flatten().map(|x| x.history.len()).sum();
         println!("P {places} H {entries} W {words}: {} words, {entries_made} entries, one plain pass {pass:.1} us", store.len());
         calls(&s, pass);
+        rollbacks(&s);
     }
     let size = |places, entries, words| Sizes { places, entries, words };
     grows("how a refused call grows with P", &[size(2, 16, 64), size(4, 16, 64), size(8, 16, 64), size(16, 16, 64)]);
