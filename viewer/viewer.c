@@ -1,5 +1,5 @@
-/* A terminal viewer of the reversing bench: loads a module, reads commands, shows each answer and the listing after it, and marks what
- * changed.
+/* A terminal viewer of the reversing bench: loads a module, reads commands, shows each answer and the listing after it with each control as a
+ * term, and marks what changed. In a term X0 is a variable, a5 an atom, <1> a pid and f2 a function.
  *
  *     viewer MODULE [P H W] < commands
  *
@@ -26,6 +26,98 @@ static const char help[] =
     "undeliver=P   P's newest queued message goes back into flight\n"
     "rollback=P,T  undoes P's newest passing of checkpoint T and all that depends on it\n"
     "?             this help      q  ends\n";
+
+/* ---- a control as a term, for people */
+
+struct row {
+    uint32_t words[256];
+    size_t count, at;
+};
+
+static void show_term(struct row *r);
+
+static void show_terms(struct row *r, unsigned n, const char *between)
+{
+    for (unsigned i = 0; i < n; i++) {
+        if (i > 0)
+            fputs(between, stdout);
+        show_term(r);
+    }
+}
+
+/* n clauses: pattern, guard, body; the guard `true` is left out. */
+static void show_clauses(struct row *r, unsigned n)
+{
+    for (unsigned i = 0; i < n && r->at < r->count; i++) {
+        r->at++;
+        fputs(i > 0 ? "; " : " ", stdout);
+        show_term(r);
+        if (r->at < r->count && r->words[r->at] == 0x02000000) {
+            r->at++;
+        } else {
+            fputs(" when ", stdout);
+            show_term(r);
+        }
+        fputs(" -> ", stdout);
+        show_term(r);
+    }
+    fputs(" end", stdout);
+}
+
+/* An integer's payload, as two's complement. */
+static void show_integer(struct row *r)
+{
+    if (r->at < r->count) {
+        uint32_t payload = r->words[r->at++];
+        printf("%lld", payload < 0x80000000u ? (long long)payload : (long long)payload - 0x100000000ll);
+    }
+}
+
+static void show_term(struct row *r)
+{
+    static const char *const operators[] = {"+", "-", "*", "div", "rem", "=:=", "=/=", "<", "=<"};
+    if (r->at >= r->count) {
+        putchar('?');
+        return;
+    }
+    uint32_t word = r->words[r->at++];
+    unsigned tag = word >> 24, n = word >> 16 & 0xFF, k = word & 0xFFFF;
+    switch (tag) {
+    case 1: printf("X%u", k); break;
+    case 2: k == 0 ? fputs("true", stdout) : k == 1 ? fputs("false", stdout) : printf("a%u", k); break;
+    case 3: show_integer(r); break;
+    case 4: printf("<%u>", k); break;
+    case 5: fputs("[]", stdout); break;
+    case 6: putchar('['), show_terms(r, 2, "|"), putchar(']'); break;
+    case 7: putchar('{'), show_terms(r, n, ", "), putchar('}'); break;
+    case 8: putchar('('), show_term(r), printf(" %s ", k < 9 ? operators[k] : "?"), show_term(r), putchar(')'); break;
+    case 9: printf("f%u(", k), show_terms(r, n, ", "), putchar(')'); break;
+    case 10: fputs("case ", stdout), show_term(r), fputs(" of", stdout), show_clauses(r, n); break;
+    case 11: printf("let X%u = ", k), show_term(r), fputs(" in ", stdout), show_term(r); break;
+    case 12: fputs("receive", stdout), show_clauses(r, n); break;
+    case 13: printf("spawn f%u(", k), show_terms(r, n, ", "), putchar(')'); break;
+    case 14: putchar('('), show_term(r), fputs(" ! ", stdout), show_term(r), putchar(')'); break;
+    case 15: fputs("self()", stdout); break;
+    case 16: printf("check %u", k); break;
+    default: printf("?%08X", (unsigned)word); break;
+    }
+}
+
+/* The term that the words of a listing's line say: eight hexadecimal digits each, split by single spaces. */
+static void show_control(const char *hex, size_t len)
+{
+    struct row r = {.count = 0, .at = 0};
+    for (size_t at = 0; at + 8 <= len && r.count < sizeof r.words / sizeof *r.words; at += 9) {
+        char digits[9] = "";
+        memcpy(digits, hex + at, 8);
+        r.words[r.count++] = (uint32_t)strtoul(digits, NULL, 16);
+    }
+    fputs("         ", stdout);
+    show_term(&r);
+    putchar('\n');
+}
+
+/* ---- listings */
 
 /* The listing of a store. */
 struct listing {
@@ -122,6 +214,8 @@ static void show(void)
         putchar(old != NULL && left >= len && memcmp(old, at, len) == 0 ? ' ' : '*');
         putchar(' ');
         fwrite(at, 1, len, stdout);
+        if (len > 6 && memcmp(at, "words=", 6) == 0)
+            show_control(at + 6, len - 7);
         at += len;
     }
     before = now;
