@@ -1,33 +1,32 @@
-use Prim.Native.Nat.{ℕ, _≤_, _<_, _-_}
-use mathlib.Core.Path.{_≡_}
+-- `zeros` meets its contract.
+use Prim.Native.Nat.{_≤_, _-_}
+use mathlib.Core.Logic.{⊎-elim}
 use native.Mathlib.Omega.{arith}
-use lib.ListN.{length, getD}
+use lib.ListN.{length}
 use borrow.Author.Needs.{needs}
-use borrow.Author.Count.{below-more}
-use Rattle.lists.proofs.Decides.{yes-to, no-to}
-use Rattle.store.proofs.ZerosLaws.{zeros-all, zeros-each}
+use Rattle.lists.specs.Decides.{Decides}
+use Rattle.lists.proofs.Decides.{yes-to, by}
+use Rattle.store.proofs.ZerosLaws.{ZerosBelow, zeros-all, zeros-each, met-other, met-zero}
 use Rattle.store.proofs.zeros.zeros.Statement.{statement}
 use Rattle.store.proofs.zeros.zeros.Tie as tie
 use Rattle.store.proofs.zeros.zeros.Reads as reads
 use Rattle.store.proofs.zeros.zeros.Lts as lts
 
+-- `all` tells whether the words met so far are zeros
 abbrev Inv-loop : tie.InvT-loop
-Inv-loop part i₀ i = (i ≤ length part) × ((k : ℕ) → k < i → getD part k 0 ≡ 0)
+Inv-loop part all₀ i₀ all i = (i ≤ length part) × Decides (ZerosBelow part i) all
 
 abbrev μ-loop : tie.MeasureT-loop
-μ-loop part i₀ i = length part - i
+μ-loop part all₀ i₀ all i = length part - i
 
 loop-holds : tie.Need-loop-holds Inv-loop μ-loop
-loop-holds c = (omega arith, λ k h. absurd (omega arith))
+loop-holds c = (omega arith, yes-to (λ k h. absurd (omega arith)))
 
 mul-if1 : tie.Need-mul-if1 Inv-loop μ-loop
 mul-if1 c = search needs
 
 shared-slice-read-if1 : tie.Need-shared-slice-read-if1 Inv-loop μ-loop
 shared-slice-read-if1 c = search needs
-
-returns : tie.Need-returns Inv-loop μ-loop
-returns c = no-to (λ z. c .if1 .taken (zeros-each (c .before .before .before .before .args .part .now) (c .before .before .before .loop .i) z (omega arith)))
 
 add-i : tie.Need-add-i Inv-loop μ-loop
 add-i c = search needs
@@ -36,10 +35,20 @@ loop-less : tie.Need-loop-less Inv-loop μ-loop
 loop-less c = search needs
 
 loop-again : tie.Need-loop-again Inv-loop μ-loop
-loop-again c = (search needs, below-more _ _ (c .before .before .before .loop .inv .1) (c .if1 .left))
+loop-again c =
+    let part = c .before .before .before .before .args .part .now in
+    let i = c .before .before .before .loop .i in (
+      search needs,
+      ⊎-elim
+          (λ w. met-other part i _ (w .1) (w .0 .taken))
+          (λ w. met-zero part i _ _ (w .1) (w .0 .left) (c .before .before .before .loop .inv .1))
+          (c .if1 .came),
+    )
 
-returns-2 : tie.Need-returns-2 Inv-loop μ-loop
-returns-2 c = yes-to (zeros-all (c .before .before .args .part .now) (λ i h. c .before .loop .inv .1 i (omega (arith, c .loop-test .left))))
+returns : tie.Need-returns Inv-loop μ-loop
+returns c =
+    let part = c .before .before .args .part .now in
+    by (λ f. zeros-all part (λ i h. f i (omega (arith, c .loop-test .left)))) (λ z k h. zeros-each part k z (omega (arith, c .before .loop .inv .0))) (c .before .loop .inv .1)
 
 pub zeros-spec : {M : Type 1} → statement M
 zeros-spec =
@@ -50,8 +59,7 @@ zeros-spec =
     loop-holds
     mul-if1
     shared-slice-read-if1
-    returns
     add-i
     loop-less
     loop-again
-    returns-2)
+    returns)
