@@ -45,11 +45,11 @@ unfolding AskedCall
 asked-determined none entry o o′ a b = a ∙ sym b
 asked-determined (some request) entry o o′ a b = request-determined request entry o o′ a b
 
-line-determined : (line entry : List ℕ) (o o′ : Outcome) → LineCall line entry o → LineCall line entry o′ → o ≡ o′
+pub line-determined : (line entry : List ℕ) (o o′ : Outcome) → LineCall line entry o → LineCall line entry o′ → o ≡ o′
 unfolding LineCall
 line-determined line entry o o′ a b = asked-determined (parseLine line) entry o o′ a b
 
-listing-determined : (store out : List ℕ) (o o′ : Outcome) → ListingCall store out o → ListingCall store out o′ → o ≡ o′
+pub listing-determined : (store out : List ℕ) (o o′ : Outcome) → ListingCall store out o → ListingCall store out o′ → o ≡ o′
 unfolding ListingCall
 listing-determined store out o o′ a b = store-determined store _ _ o o′ a b
 

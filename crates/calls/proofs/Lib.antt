@@ -1,5 +1,7 @@
 pub mod AnswerNumbers
 pub mod Determined
+pub mod OneAnswer
+pub mod Past
 pub mod Accepted
 pub mod Loads
 pub mod Returns

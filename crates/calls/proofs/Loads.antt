@@ -25,7 +25,7 @@ use Rattle.rules.proofs.RollbackDemands.{rollback-demands}
 use Rattle.store.specs.Layout.{needed, image}
 use Rattle.store.specs.Loading.{Outcome, afterLoad, loadInto}
 use Rattle.calls.specs.Calls.{stored, RequestCall, AskedCall, LineCall, written, ListingCall, LoadCall}
-use Rattle.calls.specs.Promises.{Held, by-load, by-request, by-line, ReachedStore, AfterALoad}
+use Rattle.calls.specs.Promises.{Held, by-load, by-refused-load, by-request, by-line, ReachedStore, AfterALoad}
 use Rattle.calls.proofs.Accepted.{reach-request, below-request, rollback-outcome, rollback-stored}
 
 -- a load that is answered 0 leaves the image of the loaded state
@@ -46,6 +46,19 @@ unfolding loadInto
 load-into module′ sizes entry h = elim (true-or-false (goodSizes sizes && leb (needed sizes) (length entry))) [
   | inl good ↦ rw (good, loadInto) (loaded-store module′ sizes entry (checkModule module′) (and-left _ _ good) refl (rw (good, loadInto) at h))
   | inr bad ↦ let two : _≡_ {A = ℕ} 2 0 = rw (bad, loadInto) at h in absurd (omega (arith, two))
+]
+
+-- a refused load leaves the words as they were
+after-refused : (entry : List ℕ) (x : Load) → afterLoad entry x .number ≢ done → afterLoad entry x .left ≡ entry
+unfolding afterLoad
+after-refused entry (refused number at) n = refl
+after-refused entry (loads s) n = absurd (n refl)
+
+kept-load : (module′ : List ℕ) (sizes : Sizes) (entry : List ℕ) (o : Outcome) → LoadCall module′ sizes entry o → o .number ≢ done → o .left ≡ entry
+unfolding LoadCall loadInto
+kept-load module′ sizes entry o call n = ap (λ (y : Outcome). y .left) call ∙ elim (true-or-false (goodSizes sizes && leb (needed sizes) (length entry))) [
+  | inl good ↦ rw (good, loadInto) (after-refused entry (load module′ sizes) (λ e. n (ap (λ (y : Outcome). y .number) call ∙ rw (good, loadInto) e)))
+  | inr bad ↦ rw (bad, loadInto) refl
 ]
 
 reached-sound : (s : State) → Reachable s → Sound s
@@ -73,6 +86,7 @@ pub reached-store : (l : List ℕ) → Held l → ReachedStore l
 unfolding LoadCall LineCall
 reached-store l (by-load module′ entry sizes o call h) =
     subst (λ (y : Outcome). ReachedStore (y .left)) (sym call) (load-into module′ sizes entry (sym (ap (λ (y : Outcome). y .number) call) ∙ h))
+reached-store l (by-refused-load module′ entry sizes o before call n) = subst ReachedStore (sym (kept-load module′ sizes entry o call n)) (reached-store entry before)
 reached-store l (by-request entry request o before call) = request-reached request entry o (reached-store entry before) call
 reached-store l (by-line entry line o before call) = asked-reached (parseLine line) entry o (reached-store entry before) call
 

@@ -4,8 +4,8 @@ use Prim.Native.Nat.{ℕ}
 use mathlib.Core.Path.{_≡_}
 use mathlib.Core.Logic.{_≢_}
 use mathlib.Core.Bool.{true}
-use mathlib.Core.Option.{Option, none, some}
 use mathlib.Core.List.{List, [], _∷_, _++_}
+use lib.ListN.{length}
 use Rattle.rules.specs.Answers.{done, held, notAState}
 use Rattle.rules.specs.State.{Sizes, State}
 use Rattle.rules.specs.Load.{loaded}
@@ -17,10 +17,12 @@ use Rattle.rules.specs.Demands.{Reachable}
 use Rattle.rules.specs.Replies.{perform}
 use Rattle.rules.specs.Rollback.{Rollback}
 use Rattle.rules.specs.Cases.{benchSizes}
-use Rattle.store.specs.Layout.{image}
+use Rattle.store.specs.Layout.{needed, image}
 use Rattle.store.specs.Image.{IsImage}
 use Rattle.store.specs.Loading.{Outcome}
-use Rattle.calls.specs.Calls.{refusedStore, stored, RequestCall, LineCall, ListingCall, LoadCall}
+use Rattle.calls.specs.Calls.{outcome, refusedStore, stored, RequestCall, LineCall, ListingCall, LoadCall}
+use Rattle.calls.specs.Numbers.{Performs, TextCall, Lists}
+use Rattle.calls.specs.declared.answers.Answer.{Answer}
 
 -- "any two outcomes allowed by it are proved equal"
 pub record Determined : Type 0 where
@@ -28,6 +30,24 @@ pub record Determined : Type 0 where
   pub request : (request : Request) (entry : List ℕ) (o o′ : Outcome) → RequestCall request entry o → RequestCall request entry o′ → o ≡ o′
   pub line : (line entry : List ℕ) (o o′ : Outcome) → LineCall line entry o → LineCall line entry o′ → o ≡ o′
   pub listing : (store out : List ℕ) (o o′ : Outcome) → ListingCall store out o → ListingCall store out o′ → o ≡ o′
+
+-- and so are the answers of the code, and what it leaves
+abbrev pub OneAnswer : (List ℕ → Answer → Type 0) → Type 0
+OneAnswer Allowed = (exit exit′ : List ℕ) (r r′ : Answer) → Allowed exit r → Allowed exit′ r′ → (r ≡ r′) × (exit ≡ exit′)
+
+pub record AnswersDetermined : Type 0 where
+  -- step, spawn, deliver, back, undeliver, rollback
+  pub request : (request : Request) (entry : List ℕ) → OneAnswer (Performs request entry)
+  pub line : (line entry : List ℕ) → OneAnswer (TextCall line entry)
+  pub listing : (store out : List ℕ) → OneAnswer (Lists store out)
+
+-- "Words past it are neither read nor written": whatever stands past the needed words, the answer is the same and what stood there stays
+pub record PastIsLeft : Type 0 where
+  pub request : (request : Request) (s : State) (rest rest′ : List ℕ) (o o′ : Outcome) → Sound s → RequestCall request (image s ++ rest) o → RequestCall request (image s ++ rest′) o′
+      → (end : State) × (o .left ≡ image end ++ rest) × (o′ ≡ outcome (o .number) (o .value) (image end ++ rest′))
+  pub listing : (s : State) (rest rest′ out : List ℕ) (o o′ : Outcome) → Sound s → ListingCall (image s ++ rest) out o → ListingCall (image s ++ rest′) out o′ → o ≡ o′
+  pub load : (module′ : List ℕ) (sizes : Sizes) (l rest : List ℕ) (o o′ : Outcome) → length l ≡ needed sizes → LoadCall module′ sizes l o → LoadCall module′ sizes (l ++ rest) o′
+      → o′ ≡ outcome (o .number) (o .value) (o .left ++ rest)
 
 -- No contract asks for two things at once: what it says of a state is allowed, since a store is the image of one state; and 15 elsewhere.
 pub record Possible : Type 0 where
@@ -42,6 +62,7 @@ pub record RollbackStored : Type 0 where
 -- a store after a load and any calls
 pub data Held : List ℕ → Type 0 where
   by-load : (module′ entry : List ℕ) (sizes : Sizes) (o : Outcome) → LoadCall module′ sizes entry o → o .number ≡ done → Held (o .left)
+  by-refused-load : (module′ entry : List ℕ) (sizes : Sizes) (o : Outcome) → Held entry → LoadCall module′ sizes entry o → o .number ≢ done → Held (o .left)
   by-request : (entry : List ℕ) (request : Request) (o : Outcome) → Held entry → RequestCall request entry o → Held (o .left)
   by-line : (entry line : List ℕ) (o : Outcome) → Held entry → LineCall line entry o → Held (o .left)
 
@@ -102,6 +123,8 @@ pub record ShamsCaught : Type 0 where
 
 pub record Promises : Type 0 where
   pub determined : Determined
+  pub answers-determined : AnswersDetermined
+  pub past-is-left : PastIsLeft
   pub possible : Possible
   pub rollback-stored : RollbackStored
   pub after-a-load : AfterALoad
