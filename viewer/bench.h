@@ -3,7 +3,10 @@
  * A slice goes as a pointer and a count of elements. A call returns value * 2^32 + number: the number is one of enum bench_answer, the value
  * is named beside each call and is 0 elsewhere. No call reads or writes outside the slices that it is lent, and none needs anything of what
  * stands in them: a store that is not the image of a sound state is answered BENCH_NOT_A_STATE by every call but bench_load. A refusal (any
- * number but BENCH_DONE) leaves every word of the store and every byte of the output as it was. */
+ * number but BENCH_DONE) leaves every word of the store and every byte of the output as it was.
+ *
+ * What the caller owes, since C does not check it: a pointer is valid and aligned for its whole count, never NULL (for a count of 0 any aligned
+ * address that isn't NULL will do), and no slice that a call writes overlaps another slice of the same call. Nothing else is asked. */
 #ifndef BENCH_H
 #define BENCH_H
 
@@ -29,6 +32,32 @@ enum bench_answer {
     BENCH_NOT_A_STATE = 15,
     BENCH_NO_ROOM = 16,
     BENCH_BAD_LINE = 17
+};
+
+/* The parts of a word, tag * 2^24 + n * 2^16 + k, and its tags. */
+#define BENCH_TAG(w) ((unsigned)((w) >> 24))
+#define BENCH_N(w) ((unsigned)((w) >> 16 & 0xFFu))
+#define BENCH_K(w) ((unsigned)((w) & 0xFFFFu))
+
+enum bench_tag {
+    BENCH_VARIABLE = 1,
+    BENCH_ATOM = 2,
+    BENCH_INTEGER = 3,
+    BENCH_PID = 4,
+    BENCH_NIL = 5,
+    BENCH_CONS = 6,
+    BENCH_TUPLE = 7,
+    BENCH_CALL = 8,
+    BENCH_APPLY = 9,
+    BENCH_CASE = 10,
+    BENCH_LET = 11,
+    BENCH_RECEIVE = 12,
+    BENCH_SPAWN = 13,
+    BENCH_SEND = 14,
+    BENCH_SELF = 15,
+    BENCH_CHECK = 16,
+    BENCH_CLAUSE = 17,
+    BENCH_FUNCTION = 18
 };
 
 #define BENCH_NUMBER(r) ((uint32_t)((r) & 0xFFFFFFFFu))

@@ -1,12 +1,16 @@
 #!/bin/sh
-# Runs a viewer on the tour's module and on the first cases of the corpus; any complaint of a sanitizer ends it.
+# Runs a viewer on the tour's module, whose answers must be those of the program `tour`, and on the first cases of the corpus; any complaint
+# of a sanitizer ends it.
 # usage: viewer/try.sh VIEWER [CASES]
 set -eu
 viewer=$1
 cases=${2:-40}
 folder=$(mktemp -d)
 trap 'rm -rf "$folder"' EXIT
-"$viewer" viewer/drives.hex 5 16 64 < viewer/drives.txt > /dev/null
+"$viewer" viewer/drives.hex 5 16 64 < viewer/drives.txt > "$folder/tour"
+sed -n 's/^\(load: \)\{0,1\}\([0-9][0-9]*\) [a-z].*/\2/p' "$folder/tour" > "$folder/seen"
+sed -n 's/^answer=//p' crates/tour/stdout > "$folder/wanted"
+cmp "$folder/seen" "$folder/wanted"
 # A case of the corpus begins with a line load=PLACES ENTRIES WORDS MODULE.. in hex; `list`, `short=` and `clear` are lines of the corpus alone.
 awk -v folder="$folder" -v most="$cases" '
     /^load=/ { count++; if (count > most) exit; split(substr($0, 6), w, " "); print w[1], w[2], w[3] > (folder "/" count ".sizes")

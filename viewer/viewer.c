@@ -1,5 +1,6 @@
 /* A terminal viewer of the reversing bench: loads a module, reads commands, shows each answer and the listing after it with each control as a
- * term, and marks what changed. In a term X0 is a variable, a5 an atom, <1> a pid and f2 a function.
+ * term and the checkpoints that each process has passed, and marks what changed. In a term X0 is a variable, a5 an atom, <1> a pid and f2 a
+ * function.
  *
  *     viewer MODULE [P H W] < commands
  *
@@ -11,7 +12,10 @@
 #include <stdlib.h>
 #include <string.h>
 
-enum { MODULE_ROOM = 513, LISTING_ROOM = 1 << 17, LINE_ROOM = 64 };
+enum { MODULE_ROOM = 513, LISTING_ROOM = 1 << 17, LINE_ROOM = 64, TRUE_WORD = BENCH_ATOM << 24 };
+
+/* Of the store's layout (docs/LAYOUT.md): where the blocks of the places begin, a slot's head, and the kind of a slot that is a check. */
+enum { BLOCKS = 516, SLOT_HEAD = 8, KIND_CHECK = 6 };
 
 static const char *const answers[] = {
     "done", "bad module", "bad sizes", "no process", "finished", "waiting", "stuck", "wrong command", "place taken", "too large",
@@ -36,13 +40,25 @@ struct row {
 
 static void show_term(struct row *r);
 
-static void show_terms(struct row *r, unsigned n, const char *between)
+/* n terms, with what stands before, between and behind them. */
+static void show_between(struct row *r, const char *before_all, unsigned n, const char *between, const char *behind)
 {
+    fputs(before_all, stdout);
     for (unsigned i = 0; i < n; i++) {
         if (i > 0)
             fputs(between, stdout);
         show_term(r);
     }
+    fputs(behind, stdout);
+}
+
+/* Truth is atom 0, falsity atom 1. */
+static void show_atom(unsigned k)
+{
+    if (k <= 1)
+        fputs(k == 0 ? "true" : "false", stdout);
+    else
+        printf("a%u", k);
 }
 
 /* n clauses: pattern, guard, body; the guard `true` is left out. */
@@ -52,7 +68,7 @@ static void show_clauses(struct row *r, unsigned n)
         r->at++;
         fputs(i > 0 ? "; " : " ", stdout);
         show_term(r);
-        if (r->at < r->count && r->words[r->at] == 0x02000000) {
+        if (r->at < r->count && r->words[r->at] == TRUE_WORD) {
             r->at++;
         } else {
             fputs(" when ", stdout);
@@ -76,29 +92,48 @@ static void show_integer(struct row *r)
 static void show_term(struct row *r)
 {
     static const char *const operators[] = {"+", "-", "*", "div", "rem", "=:=", "=/=", "<", "=<"};
+    char name[24];
     if (r->at >= r->count) {
         putchar('?');
         return;
     }
     uint32_t word = r->words[r->at++];
-    unsigned tag = word >> 24, n = word >> 16 & 0xFF, k = word & 0xFFFF;
-    switch (tag) {
-    case 1: printf("X%u", k); break;
-    case 2: k == 0 ? fputs("true", stdout) : k == 1 ? fputs("false", stdout) : printf("a%u", k); break;
-    case 3: show_integer(r); break;
-    case 4: printf("<%u>", k); break;
-    case 5: fputs("[]", stdout); break;
-    case 6: putchar('['), show_terms(r, 2, "|"), putchar(']'); break;
-    case 7: putchar('{'), show_terms(r, n, ", "), putchar('}'); break;
-    case 8: putchar('('), show_term(r), printf(" %s ", k < 9 ? operators[k] : "?"), show_term(r), putchar(')'); break;
-    case 9: printf("f%u(", k), show_terms(r, n, ", "), putchar(')'); break;
-    case 10: fputs("case ", stdout), show_term(r), fputs(" of", stdout), show_clauses(r, n); break;
-    case 11: printf("let X%u = ", k), show_term(r), fputs(" in ", stdout), show_term(r); break;
-    case 12: fputs("receive", stdout), show_clauses(r, n); break;
-    case 13: printf("spawn f%u(", k), show_terms(r, n, ", "), putchar(')'); break;
-    case 14: putchar('('), show_term(r), fputs(" ! ", stdout), show_term(r), putchar(')'); break;
-    case 15: fputs("self()", stdout); break;
-    case 16: printf("check %u", k); break;
+    unsigned n = BENCH_N(word), k = BENCH_K(word);
+    switch (BENCH_TAG(word)) {
+    case BENCH_VARIABLE: printf("X%u", k); break;
+    case BENCH_ATOM: show_atom(k); break;
+    case BENCH_INTEGER: show_integer(r); break;
+    case BENCH_PID: printf("<%u>", k); break;
+    case BENCH_NIL: fputs("[]", stdout); break;
+    case BENCH_CONS: show_between(r, "[", 2, "|", "]"); break;
+    case BENCH_TUPLE: show_between(r, "{", n, ", ", "}"); break;
+    case BENCH_CALL:
+        snprintf(name, sizeof name, " %s ", k < sizeof operators / sizeof *operators ? operators[k] : "?");
+        show_between(r, "(", 2, name, ")");
+        break;
+    case BENCH_APPLY:
+        snprintf(name, sizeof name, "f%u(", k);
+        show_between(r, name, n, ", ", ")");
+        break;
+    case BENCH_CASE:
+        show_between(r, "case ", 1, "", " of");
+        show_clauses(r, n);
+        break;
+    case BENCH_LET:
+        snprintf(name, sizeof name, "let X%u = ", k);
+        show_between(r, name, 2, " in ", "");
+        break;
+    case BENCH_RECEIVE:
+        fputs("receive", stdout);
+        show_clauses(r, n);
+        break;
+    case BENCH_SPAWN:
+        snprintf(name, sizeof name, "spawn f%u(", k);
+        show_between(r, name, n, ", ", ")");
+        break;
+    case BENCH_SEND: show_between(r, "(", 2, " ! ", ")"); break;
+    case BENCH_SELF: fputs("self()", stdout); break;
+    case BENCH_CHECK: printf("check %u", k); break;
     default: printf("?%08X", (unsigned)word); break;
     }
 }
@@ -128,13 +163,32 @@ struct listing {
 static uint32_t store_words[BENCH_NEEDED(16, 64, 255)];
 static struct listing now, before;
 
-static void say(const char *what, uint64_t r)
+/* An answer by number and name, with the position of a bad module and the count of an accepted rollback. */
+static void say(const char *what, uint64_t r, int rollback)
 {
     uint32_t number = BENCH_NUMBER(r);
     printf("%s%u %s", what, number, number < sizeof answers / sizeof *answers ? answers[number] : "?");
-    if (BENCH_VALUE(r) != 0)
-        printf(" (%u)", BENCH_VALUE(r));
+    if (number == BENCH_BAD_MODULE)
+        printf(", at word %u", BENCH_VALUE(r));
+    if (number == BENCH_DONE && rollback)
+        printf(", undone %u", BENCH_VALUE(r));
     putchar('\n');
+}
+
+/* The checkpoints that stand in a place's history, oldest first. */
+static void show_checks(unsigned long place)
+{
+    size_t places = store_words[0], entries = store_words[1], slot = SLOT_HEAD + store_words[2] + places * entries;
+    const uint32_t *block = store_words + BLOCKS + place * (entries + 1) * slot;
+    int any = 0;
+    for (size_t i = 1; place < places && i <= entries; i++) {
+        if (block[i * slot] != KIND_CHECK)
+            continue;
+        printf(any ? " %u" : "         checkpoints passed: %u", (unsigned)block[i * slot + 2]);
+        any = 1;
+    }
+    if (any)
+        putchar('\n');
 }
 
 /* Words of a module file; MODULE_ROOM of them stand for too many. Returns -1 where something is no word. */
@@ -172,7 +226,7 @@ static void list(const uint32_t *store, size_t len)
     uint64_t r = bench_listing(store, len, (uint8_t *)now.text, sizeof now.text);
     now.len = BENCH_NUMBER(r) == BENCH_DONE ? BENCH_VALUE(r) : 0;
     if (now.len == 0)
-        say("listing: ", r);
+        say("listing: ", r, 0);
 }
 
 /* The value of a key below a pid, as the line that holds it; NULL where there is none. A line is told by its pid and its key. */
@@ -214,8 +268,10 @@ static void show(void)
         putchar(old != NULL && left >= len && memcmp(old, at, len) == 0 ? ' ' : '*');
         putchar(' ');
         fwrite(at, 1, len, stdout);
-        if (len > 6 && memcmp(at, "words=", 6) == 0)
+        if (len > 6 && memcmp(at, "words=", 6) == 0) {
             show_control(at + 6, len - 7);
+            show_checks(strtoul(pid + 4, NULL, 10));
+        }
         at += len;
     }
     before = now;
@@ -243,7 +299,10 @@ static int size_of(const char *text, uint32_t *out)
 
 static int usage(void)
 {
-    fputs("usage: viewer MODULE [P H W]\n", stderr);
+    fputs("usage: viewer MODULE [P H W]\n"
+          "  MODULE  a file of words in hex, split by spaces or lines; # starts a comment\n"
+          "  P H W   process places (1 to 16), history entries of each (1 to 64), words of an expression (16 to 255); else 4 16 64\n",
+          stderr);
     return 2;
 }
 
@@ -267,9 +326,10 @@ int main(int argc, char **argv)
     }
     size_t len = sizeof store_words / sizeof *store_words;
     uint64_t r = bench_load(module, (size_t)count, places, entries, words, store_words, len);
-    say("load: ", r);
+    say("load: ", r, 0);
     if (BENCH_NUMBER(r) != BENCH_DONE)
         return 1;
+    puts("(a line of ? shows the commands, q ends; * marks what changed)");
     list(store_words, len);
     show();
     char line[LINE_ROOM];
@@ -281,7 +341,7 @@ int main(int argc, char **argv)
             continue;
         }
         printf("\n> %.*s\n", (int)n, line);
-        say("", bench_line(store_words, len, (const uint8_t *)line, n));
+        say("", bench_line(store_words, len, (const uint8_t *)line, n), n > 9 && memcmp(line, "rollback=", 9) == 0);
         list(store_words, len);
         show();
     }

@@ -13,6 +13,9 @@ extern "C" {
     fn bench_line(store: *mut u32, len: usize, text: *const u8, text_len: usize) -> u64;
 }
 
+// SAFETY, of every call below: a Rust slice is valid and aligned for its length and its pointer is never null, the slices of one call do not
+// overlap since at most one of them is borrowed mutably, and the library's contracts ask nothing else.
+
 fn parts(r: u64) -> (u32, u32) {
     (r as u32, (r >> 32) as u32)
 }

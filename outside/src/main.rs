@@ -31,7 +31,9 @@ fn run(words: &[String]) -> Option<()> {
     if input.last() == Some(&b'\n') {
         input.pop();
     } else if input.is_empty() {
-        print!("{}", image::decode(&store)?.listing());
+        if let Some(s) = image::decode(&store) {
+            print!("{}", s.listing());
+        }
         return Some(());
     }
     for text in input.split(|b| *b == b'\n') {
