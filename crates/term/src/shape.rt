@@ -3,14 +3,20 @@ use crate::tables::BODY;
 use crate::tables::OF_CASE;
 use crate::tables::OF_CLAUSE;
 use crate::tables::OF_RECEIVE;
-use crate::tables::ROWS;
 use crate::tables::below;
 use crate::tables::greatest;
 use crate::tables::least;
 use crate::tables::limit;
+use crate::words::ATOM;
 use crate::words::CALL;
+use crate::words::CHECK;
+use crate::words::CLAUSE;
+use crate::words::FUNCTION;
 use crate::words::INTEGER;
+use crate::words::NIL;
 use crate::words::PID;
+use crate::words::TUPLE;
+use crate::words::VARIABLE;
 use crate::words::k;
 use crate::words::n;
 use crate::words::tag;
@@ -18,7 +24,7 @@ ghost use mathlib.Core.Path.{_≡_};
 ghost use mathlib.Core.Bool.{_&&_};
 ghost use lib.Dec.{leb};
 ghost use Rattle.lists.specs.Lists.{member};
-ghost use Rattle.term.specs.Table.{rowOf, tagsAt, kLimit, fits, ownSpot};
+ghost use Rattle.term.specs.Table.{rowOf, tagsAt, kLimit, fits, ownSpot, spotGuard};
 ghost use Rattle.term.specs.Reading.{Reads, RunsOf, oneRun};
 
 // The spots where a term stands.
@@ -34,53 +40,72 @@ pub const CLAUSE_SPOT: usize = 4;
 
 pub const VALUE: usize = 5;
 
-// How many spots there are, and the row of a control's guard.
-const SPOTS: usize = 6;
+// Whether a tag lies between two others.
+pub fn between(low: u32, tag: u32, high: u32) -> bool
+    ensures { λ r. ⌜ r ≡ (leb low tag && leb tag high) ⌝ }
+{
+    if tag < low {
+        return false;
+    }
+    tag <= high
+}
 
-const CONTROL_GUARD: usize = 6;
+// Whether a tag may stand at a guard; a control's guard, where there are places, holds values too.
+pub fn stands_in_guard(places: u32, tag: u32) -> bool
+    ensures { λ r. ⌜ r ≡ member tag (tagsAt places spotGuard) ⌝ }
+{
+    if tag == CALL {
+        return true;
+    }
+    if places != 0 {
+        return between(VARIABLE, tag, TUPLE);
+    }
+    if tag == PID {
+        return false;
+    }
+    between(VARIABLE, tag, NIL)
+}
 
-// The tags that may stand at each spot.
-const STANDS: [[u32; 19]; 7] = [
-    [0, 0, 0, 0, 0, 0, 0, 0, 0, 0, 0, 0, 0, 0, 0, 0, 0, 0, 1],
-    [0, 1, 1, 1, 1, 1, 1, 1, 1, 1, 1, 1, 1, 1, 1, 1, 1, 0, 0],
-    [0, 1, 1, 1, 0, 1, 1, 1, 0, 0, 0, 0, 0, 0, 0, 0, 0, 0, 0],
-    [0, 1, 1, 1, 0, 1, 0, 0, 1, 0, 0, 0, 0, 0, 0, 0, 0, 0, 0],
-    [0, 0, 0, 0, 0, 0, 0, 0, 0, 0, 0, 0, 0, 0, 0, 0, 0, 1, 0],
-    [0, 0, 1, 1, 1, 1, 1, 1, 0, 0, 0, 0, 0, 0, 0, 0, 0, 0, 0],
-    [0, 1, 1, 1, 1, 1, 1, 1, 1, 0, 0, 0, 0, 0, 0, 0, 0, 0, 0],
-];
-
-// Whether a tag may stand at a spot; a control's guard, where there are places, holds values too.
-pub fn stands(places: u32, spot: usize, tag: usize) -> bool
+// Whether a tag may stand at a spot.
+pub fn stands(places: u32, spot: usize, tag: u32) -> bool
     ensures { λ r. ⌜ r ≡ member tag (tagsAt places spot) ⌝ }
 {
-    if ROWS <= tag {
-        return false;
+    if spot == EXPRESSION {
+        return between(VARIABLE, tag, CHECK);
     }
-    if SPOTS <= spot {
-        return false;
+    if spot == VALUE {
+        return between(ATOM, tag, TUPLE);
     }
-    if spot != GUARD {
-        return STANDS[spot][tag] == 1;
+    if spot == PATTERN {
+        if tag == PID {
+            return false;
+        }
+        return between(VARIABLE, tag, TUPLE);
     }
-    if places == 0 {
-        return STANDS[GUARD][tag] == 1;
+    if spot == GUARD {
+        return stands_in_guard(places, tag);
     }
-    STANDS[CONTROL_GUARD][tag] == 1
+    if spot == CLAUSE_SPOT {
+        return tag == CLAUSE;
+    }
+    if spot == FUNCTION_SPOT {
+        return tag == FUNCTION;
+    }
+    false
 }
 
 // How many k a tag has; a pid's are the places.
-pub fn k_limit(places: u32, tag: usize) -> u32
+pub fn k_limit(places: u32, tag: u32) -> u32
     ensures { λ r. ⌜ r ≡ kLimit places tag ⌝ }
 {
-    if tag == PID as usize {
+    if tag == PID {
         return places;
     }
     limit(tag)
 }
 
 // Whether a word of this tag may have this n.
-pub fn n_fits(tag: usize, n: u32) -> bool
+pub fn n_fits(tag: u32, n: u32) -> bool
     ensures { λ r. ⌜ r ≡ (leb (rowOf tag .least) n && leb n (rowOf tag .greatest)) ⌝ }
 {
     if n < least(tag) {
@@ -93,7 +118,7 @@ pub fn n_fits(tag: usize, n: u32) -> bool
 pub fn may_stand(places: u32, spot: usize, w: u32) -> bool
     ensures { λ r. ⌜ r ≡ fits places spot w ⌝ }
 {
-    let t = tag(w) as usize;
+    let t = tag(w);
     if !stands(places, spot, t) {
         return false;
     }
@@ -146,7 +171,7 @@ pub fn runs(spot: usize, w: u32) -> Spots
 {
     let times = n(w) as usize;
     let t = tag(w);
-    let kind = below(t as usize);
+    let kind = below(t);
     if kind == OF_CLAUSE {
         return Spots {
             first: PATTERN,
