@@ -1,4 +1,5 @@
 // Shape: reading a row in order, with the spots where its terms stand.
+use crate::tables::ALIKE;
 use crate::tables::BODY;
 use crate::tables::OF_CASE;
 use crate::tables::OF_CLAUSE;
@@ -21,11 +22,13 @@ use crate::words::k;
 use crate::words::n;
 use crate::words::tag;
 ghost use mathlib.Core.Path.{_≡_};
-ghost use mathlib.Core.Bool.{_&&_};
+ghost use mathlib.Core.Bool.{true, _&&_};
 ghost use lib.Dec.{leb};
+ghost use lib.ListN.{replicate};
 ghost use Rattle.lists.specs.Lists.{member};
-ghost use Rattle.term.specs.Table.{rowOf, tagsAt, kLimit, fits, ownSpot, spotGuard};
-ghost use Rattle.term.specs.Reading.{Reads, RunsOf, oneRun};
+ghost use Rattle.term.specs.Words.{nOf};
+ghost use Rattle.term.specs.Table.{childSpots, rowOf, tagsAt, kLimit, fits, ownSpot, spotGuard};
+ghost use Rattle.term.specs.Reading.{Common, Reads, ReadsAlike, RunsOf, ValueWord, oneRun};
 
 // The spots where a term stands.
 pub const FUNCTION_SPOT: usize = 0;
@@ -39,6 +42,15 @@ pub const GUARD: usize = 3;
 pub const CLAUSE_SPOT: usize = 4;
 
 pub const VALUE: usize = 5;
+
+// The words of cons and of nil, and those of atoms.
+const CONS_WORD: u32 = 100794368;
+
+const NIL_WORD: u32 = 83886080;
+
+const FIRST_ATOM: u32 = 33554432;
+
+const LAST_ATOM: u32 = 33554687;
 
 // Whether a tag lies between two others.
 pub fn between(low: u32, tag: u32, high: u32) -> bool
@@ -201,6 +213,100 @@ pub fn runs(spot: usize, w: u32) -> Spots
     one_run(own_spot(spot, t), times)
 }
 
+// Whether the children of a word, n of them, stand at its own spot.
+pub fn alike(spot: usize, w: u32) -> bool
+    ensures { λ r. ⌜ (r ≡ true → childSpots spot w ≡ replicate (nOf w) spot) ⌝ }
+{
+    let t = tag(w);
+    if below(t) != ALIKE {
+        return false;
+    }
+    if n(w) == 0 {
+        return true;
+    }
+    own_spot(spot, t) == spot
+}
+
+// Cons, nil or an atom: the words of which most values are made.
+pub fn value_word(w: u32) -> bool
+    ensures { λ r. ⌜ (r ≡ true → ValueWord w) ⌝ }
+{
+    if w == CONS_WORD {
+        return true;
+    }
+    if w == NIL_WORD {
+        return true;
+    }
+    if w < FIRST_ATOM {
+        return false;
+    }
+    w <= LAST_ATOM
+}
+
+// Whether a word is one of those of which most values are made, cons, an atom or nil, at a spot that takes them: so told at once.
+pub fn common(spot: usize, w: u32) -> bool
+    ensures { λ r. ⌜ (r ≡ true → Common spot w) ⌝ }
+{
+    if spot == EXPRESSION {
+        return value_word(w);
+    }
+    if spot == VALUE {
+        return value_word(w);
+    }
+    if spot == PATTERN {
+        return value_word(w);
+    }
+    false
+}
+
+// Where words end whose children stand at their own spot, or the first that fails, or one with other children: so many terms are to come from it on.
+pub enum Run {
+    Ends(usize),
+    Fails(usize),
+    Turns(usize, usize),
+}
+
+// Reads so many terms at a spot, from a position on, as far as the children stand at that spot too.
+pub fn read_alike(row: &[u32], places: u32, at: usize, spot: usize, times: usize) -> Run
+    ensures { λ r. ⌜ ReadsAlike places (now (row .entry)) at spot times r ⌝ }
+{
+    let mut a = at;
+    let mut left = times;
+    while 0 < left {
+        if row.len() <= a {
+            return Run::Fails(a);
+        }
+        let w = row[a];
+        if common(spot, w) {
+            if left <= row.len() {
+                a += 1;
+                left = left - 1 + n(w) as usize;
+                continue;
+            }
+        }
+        if !may_stand(places, spot, w) {
+            return Run::Fails(a);
+        }
+        if tag(w) == INTEGER {
+            if row.len() - a < 2 {
+                return Run::Fails(a + 1);
+            }
+            a += 2;
+            left -= 1;
+            continue;
+        }
+        if !alike(spot, w) {
+            return Run::Turns(a, left);
+        }
+        if row.len() < left {
+            return Run::Turns(a, left);
+        }
+        a += 1;
+        left = left - 1 + n(w) as usize;
+    }
+    Run::Ends(a)
+}
+
 // Where reading ends, or the first word at which it fails.
 pub enum Reading {
     Ends(usize),
@@ -211,34 +317,25 @@ pub enum Reading {
 pub fn read(row: &[u32], places: u32, at: usize, spot: usize, times: usize) -> Reading
     ensures { λ r. ⌜ Reads places (now (row .entry)) at spot times r ⌝ }
 {
-    if times == 0 {
-        return Reading::Ends(at);
-    }
-    if row.len() <= at {
-        return Reading::Fails(at);
-    }
-    let w = row[at];
-    if !may_stand(places, spot, w) {
-        return Reading::Fails(at);
-    }
-    if tag(w) == INTEGER {
-        if row.len() - at < 2 {
-            return Reading::Fails(at + 1);
+    let run = read_alike(row, places, at, spot, times);
+    match run {
+        Run::Ends(a) => Reading::Ends(a),
+        Run::Fails(p) => Reading::Fails(p),
+        Run::Turns(turn, left) => {
+            let r = runs(spot, row[turn]);
+            let first = read(row, places, turn + 1, r.first, r.firsts);
+            let Reading::Ends(a) = first else {
+                return first;
+            };
+            let second = read(row, places, a, r.second, r.seconds);
+            let Reading::Ends(b) = second else {
+                return second;
+            };
+            let third = read(row, places, b, r.third, r.thirds);
+            let Reading::Ends(c) = third else {
+                return third;
+            };
+            read(row, places, c, spot, left - 1)
         }
-        return read(row, places, at + 2, spot, times - 1);
     }
-    let r = runs(spot, w);
-    let first = read(row, places, at + 1, r.first, r.firsts);
-    let Reading::Ends(a) = first else {
-        return first;
-    };
-    let second = read(row, places, a, r.second, r.seconds);
-    let Reading::Ends(b) = second else {
-        return second;
-    };
-    let third = read(row, places, b, r.third, r.thirds);
-    let Reading::Ends(c) = third else {
-        return third;
-    };
-    read(row, places, c, spot, times - 1)
 }
