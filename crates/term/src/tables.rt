@@ -1,22 +1,5 @@
 // The table of the 18 tags: least and greatest n, how many k there are, and what stands below.
-use crate::words::APPLY;
-use crate::words::ATOM;
-use crate::words::CALL;
-use crate::words::CASE;
-use crate::words::CHECK;
-use crate::words::CLAUSE;
-use crate::words::CONS;
-use crate::words::FUNCTION;
 use crate::words::INTEGER;
-use crate::words::LET;
-use crate::words::NIL;
-use crate::words::PID;
-use crate::words::RECEIVE;
-use crate::words::SELF;
-use crate::words::SEND;
-use crate::words::SPAWN;
-use crate::words::TUPLE;
-use crate::words::VARIABLE;
 use crate::words::n;
 use crate::words::tag;
 ghost use mathlib.Core.Path.{_≡_};
@@ -26,8 +9,38 @@ ghost use Rattle.term.specs.Words.{tagOf, tagInteger};
 ghost use Rattle.term.specs.Table.{rowOf};
 ghost use Rattle.term.specs.Kinds.{kindOf, ChildCount};
 
+// How many rows the table has; row 0 is no tag's.
+const ROWS: u32 = 19;
+
+// Columns of bytes, where numbers are small: a constant array is built anew wherever it is read, and bytes are built at once.
+const LEAST: [u8; 19] = [0, 0, 0, 0, 0, 0, 2, 0, 2, 0, 1, 2, 1, 0, 2, 0, 0, 3, 0];
+
+const GREATEST: [u8; 19] = [0, 0, 0, 0, 0, 0, 2, 8, 2, 8, 8, 2, 8, 8, 2, 0, 0, 3, 8];
+
 // Any k: only the rules know how many functions there are.
 const ANY: u32 = 65536;
+
+const LIMIT: [u32; 19] = [
+    0, // no tag
+    64, // variable
+    256, // atom
+    1, // integer
+    16, // pid
+    1, // nil
+    1, // cons
+    1, // tuple
+    9, // call
+    ANY, // apply
+    1, // case
+    64, // let
+    1, // receive
+    ANY, // spawn
+    1, // send
+    1, // self
+    256, // check
+    1, // clause
+    1, // function
+];
 
 // What stands below a word: n children of its own kind; one expression; pattern, guard and body; a subject and n clauses; n clauses.
 pub const ALIKE: u32 = 0;
@@ -40,57 +53,42 @@ pub const OF_CASE: u32 = 3;
 
 pub const OF_RECEIVE: u32 = 4;
 
-// The columns are matches, since a constant array is built anew wherever it is read. Neighbours stand in different arms: two of them in one
-// arm would be read as a range.
+const CHILDREN: [u8; 19] = [0, 0, 0, 0, 0, 0, 0, 0, 0, 0, 3, 0, 4, 0, 0, 0, 0, 2, 1];
+
 pub fn least(tag: u32) -> u32
     ensures { λ r. ⌜ r ≡ rowOf tag .least ⌝ }
 {
-    match tag {
-        CASE | RECEIVE => 1,
-        CONS | CALL | LET | SEND => 2,
-        CLAUSE => 3,
-        _ => 0,
+    if ROWS <= tag {
+        return 0;
     }
+    LEAST[tag as usize] as u32
 }
 
 pub fn greatest(tag: u32) -> u32
     ensures { λ r. ⌜ r ≡ rowOf tag .greatest ⌝ }
 {
-    match tag {
-        CONS | CALL | LET | SEND => 2,
-        CLAUSE => 3,
-        TUPLE | APPLY | RECEIVE | FUNCTION => 8,
-        CASE | SPAWN => 8,
-        _ => 0,
+    if ROWS <= tag {
+        return 0;
     }
+    GREATEST[tag as usize] as u32
 }
 
 pub fn limit(tag: u32) -> u32
     ensures { λ r. ⌜ r ≡ rowOf tag .limit ⌝ }
 {
-    match tag {
-        VARIABLE => 64,
-        ATOM | CHECK => 256,
-        PID => 16,
-        CALL => 9,
-        APPLY | SPAWN => ANY,
-        LET => 64,
-        INTEGER | NIL | TUPLE | CASE | RECEIVE | SEND | CLAUSE => 1,
-        CONS | SELF | FUNCTION => 1,
-        _ => 0,
+    if ROWS <= tag {
+        return 0;
     }
+    LIMIT[tag as usize]
 }
 
 pub fn below(tag: u32) -> u32
     ensures { λ r. ⌜ r ≡ kindOf (rowOf tag .children) ⌝ }
 {
-    match tag {
-        CASE => OF_CASE,
-        RECEIVE => OF_RECEIVE,
-        CLAUSE => OF_CLAUSE,
-        FUNCTION => BODY,
-        _ => ALIKE,
+    if ROWS <= tag {
+        return ALIKE;
     }
+    CHILDREN[tag as usize] as u32
 }
 
 // How many children a word has.

@@ -1,31 +1,25 @@
 -- `term::tables::greatest` meets its contract.
-use mathlib.Core.Path.{refl}
-use mathlib.Core.List.{[], _∷_}
-use Rattle.lists.specs.Lists.{member}
-use Rattle.term.specs.Table.{table, rowOf}
-use Rattle.term.proofs.TableLaws.{column-at, column-else, key-out, key-neither, allOf, allBut}
+use mathlib.Core.Path.{refl, sym, ap}
+use borrow.Author.Needs.{needs}
+use mathlib.Core.List.{map}
+use Rattle.term.specs.Table.{table}
+use Rattle.term.proofs.TableLaws.{at-row, past-rows, allSmall, small-at}
 use Rattle.term.proofs.tables.greatest.Statement.{statement}
 use Rattle.term.proofs.tables.greatest.Tie as tie
 
 returns : tie.Need-returns
-unfolding allOf rowOf table
-returns c = column-at (λ row. row .greatest) _ (6 ∷ 8 ∷ 11 ∷ 14 ∷ []) _ refl (c .match .keys1)
+returns c = ap (λ row. row .greatest) (past-rows (c .before .args .tag) (search needs))
+
+array-read-result : tie.Need-array-read-result
+array-read-result c = search needs
+
+cast-result : tie.Need-cast-result
+unfolding table allSmall
+cast-result c = small-at (map (λ row. row .greatest) table) (c .before .args .tag) refl
 
 returns-2 : tie.Need-returns-2
-unfolding allOf rowOf table
-returns-2 c = column-at (λ row. row .greatest) _ (17 ∷ []) _ refl (c .match .keys2)
-
-returns-3 : tie.Need-returns-3
-unfolding allOf rowOf table
-returns-3 c = column-at (λ row. row .greatest) _ (7 ∷ 9 ∷ 12 ∷ 18 ∷ []) _ refl (c .match .keys3)
-
-returns-4 : tie.Need-returns-4
-unfolding allOf rowOf table
-returns-4 c = column-at (λ row. row .greatest) _ (10 ∷ 13 ∷ []) _ refl (c .match .keys4)
-
-returns-5 : tie.Need-returns-5
-unfolding allBut member table
-returns-5 c = column-else (λ row. row .greatest) _ (6 ∷ 8 ∷ 11 ∷ 14 ∷ 17 ∷ 7 ∷ 9 ∷ 12 ∷ 18 ∷ 10 ∷ 13 ∷ []) _ refl (key-neither (6 ∷ 8 ∷ 11 ∷ 14 ∷ 17 ∷ 7 ∷ 9 ∷ 12 ∷ 18 ∷ []) (10 ∷ 13 ∷ []) _ (key-neither (6 ∷ 8 ∷ 11 ∷ 14 ∷ 17 ∷ []) (7 ∷ 9 ∷ 12 ∷ 18 ∷ []) _ (key-neither (6 ∷ 8 ∷ 11 ∷ 14 ∷ []) (17 ∷ []) _ (key-out (6 ∷ 8 ∷ 11 ∷ 14 ∷ []) _ (c .match .rest .0 .0 .0 .1)) (c .match .rest .0 .0 .1)) (c .match .rest .0 .1)) (c .match .rest .1))
+unfolding table
+returns-2 c = sym (at-row (λ row. row .greatest) (c .before .args .tag))
 
 pub greatest-spec : {M : Type 1} → statement M
-greatest-spec = tie.close (tie.spec returns returns-2 returns-3 returns-4 returns-5)
+greatest-spec = tie.close (tie.spec returns array-read-result cast-result returns-2)

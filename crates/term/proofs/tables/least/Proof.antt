@@ -1,27 +1,25 @@
 -- `term::tables::least` meets its contract.
-use mathlib.Core.Path.{refl}
-use mathlib.Core.List.{[], _∷_}
-use Rattle.lists.specs.Lists.{member}
-use Rattle.term.specs.Table.{table, rowOf}
-use Rattle.term.proofs.TableLaws.{column-at, column-else, key-out, key-neither, allOf, allBut}
+use mathlib.Core.Path.{refl, sym, ap}
+use borrow.Author.Needs.{needs}
+use mathlib.Core.List.{map}
+use Rattle.term.specs.Table.{table}
+use Rattle.term.proofs.TableLaws.{at-row, past-rows, allSmall, small-at}
 use Rattle.term.proofs.tables.least.Statement.{statement}
 use Rattle.term.proofs.tables.least.Tie as tie
 
 returns : tie.Need-returns
-unfolding allOf rowOf table
-returns c = column-at (λ row. row .least) _ (10 ∷ 12 ∷ []) _ refl (c .match .keys1)
+returns c = ap (λ row. row .least) (past-rows (c .before .args .tag) (search needs))
+
+array-read-result : tie.Need-array-read-result
+array-read-result c = search needs
+
+cast-result : tie.Need-cast-result
+unfolding table allSmall
+cast-result c = small-at (map (λ row. row .least) table) (c .before .args .tag) refl
 
 returns-2 : tie.Need-returns-2
-unfolding allOf rowOf table
-returns-2 c = column-at (λ row. row .least) _ (6 ∷ 8 ∷ 11 ∷ 14 ∷ []) _ refl (c .match .keys2)
-
-returns-3 : tie.Need-returns-3
-unfolding allOf rowOf table
-returns-3 c = column-at (λ row. row .least) _ (17 ∷ []) _ refl (c .match .keys3)
-
-returns-4 : tie.Need-returns-4
-unfolding allBut member table
-returns-4 c = column-else (λ row. row .least) _ (10 ∷ 12 ∷ 6 ∷ 8 ∷ 11 ∷ 14 ∷ 17 ∷ []) _ refl (key-neither (10 ∷ 12 ∷ 6 ∷ 8 ∷ 11 ∷ 14 ∷ []) (17 ∷ []) _ (key-neither (10 ∷ 12 ∷ []) (6 ∷ 8 ∷ 11 ∷ 14 ∷ []) _ (key-out (10 ∷ 12 ∷ []) _ (c .match .rest .0 .0 .1)) (c .match .rest .0 .1)) (c .match .rest .1))
+unfolding table
+returns-2 c = sym (at-row (λ row. row .least) (c .before .args .tag))
 
 pub least-spec : {M : Type 1} → statement M
-least-spec = tie.close (tie.spec returns returns-2 returns-3 returns-4)
+least-spec = tie.close (tie.spec returns array-read-result cast-result returns-2)
