@@ -8,6 +8,7 @@ pub mod SpotLaws
 pub mod ShapeLaws
 pub mod Keep
 pub mod KeepLaws
+pub mod AlikeLaws
 pub mod ReadingLaws
 pub mod MarkLaws
 pub mod StandLaws

@@ -1,113 +1,137 @@
 -- The code's tables of spots hold what the definitions say: which tags may stand where, how many k they have, which spots are below.
 use Prim.Native.Nat.{ℕ, zero, suc, _+_, _≤_, _<_}
+use native.Mathlib.Decide.{ℕ-discrete}
+use mathlib.Core.Logic.{inl, inr}
 use mathlib.Core.Path.{_≡_, refl, sym, ap, _∙_}
-use mathlib.Core.Bool.{Bool, true, false, cond, not, _&&_}
-use mathlib.Core.List.{List, [], _∷_, append-nil}
+use mathlib.Core.Bool.{Bool, true, false, cond, not, _&&_, _||_}
+use mathlib.Core.List.{List, [], _∷_, _++_, append-nil}
 use native.Mathlib.Omega.{arith}
-use native.Mathlib.Nat.{add-zero, zero-add, add-suc, suc-add}
 use lib.Dec.{eqb, leb, ltb}
 use lib.ListN.{getD, replicate}
 use Rattle.lists.specs.Lists.{member}
-use native.Mathlib.Decide.{ℕ-discrete}
-use Rattle.lists.proofs.Tests.{eqb-of, eqb-apart, cond-true, cond-false, ltb-true, leb-of, leb-over, not-true, not-false, and-left, and-right}
+use Rattle.lists.proofs.Tests.{eqb-of, eqb-apart, cond-true, cond-false, leb-of, leb-over, not-true, not-false, leb-true, eqb-true, and-left, and-right, and-of, or-true, or-left, or-right, true-not-false}
 use Rattle.term.specs.Words.{tagOf, nOf, kOf, tagPid, tagCall}
 use Rattle.term.specs.Table.{Children, alike, body, ofClause, ofCase, ofReceive, rowOf, tagsAt, kLimit, fits, ownSpot, spotsBelow, childSpots, spotGuard, spotValue, spotFunction, spotExpression, spotPattern, spotClause}
 use Rattle.term.specs.Kinds.{kindOf, kindBody, kindClause, kindCase, kindReceive}
 use Rattle.term.specs.declared.shape.Spots.{Spots}
 use Rattle.term.specs.Reading.{RunsOf, oneRun}
 
--- which of n tags, from one on, stand in a list: 1 where one does
-unfoldable pub flags : List ℕ → (tag n : ℕ) → List ℕ
-flags tags tag zero = []
-flags tags tag (suc n) = cond (member tag tags) 1 0 ∷ flags tags (suc tag) n
+or-nothing : (b : Bool) → (b || false) ≡ b
+or-nothing true = refl
+or-nothing false = refl
 
-flag-is : (b : Bool) → eqb (cond b 1 0) 1 ≡ b
-flag-is true = refl
-flag-is false = refl
-
-flag-at : (tags : List ℕ) (tag n k : ℕ) → k < n → eqb (getD (flags tags tag n) k 0) 1 ≡ member (tag + k) tags
-unfolding flags
-flag-at tags tag zero k h = absurd (omega arith)
-flag-at tags tag (suc n) zero h = rw add-zero (flag-is (member tag tags))
-flag-at tags tag (suc n) (suc k) h = flag-at tags (suc tag) n k (omega arith) ∙ ap (λ (j : ℕ). member j tags) (suc-add tag k ∙ sym (add-suc tag k))
-
--- the row of a spot
-unfoldable pub rowAt : (places spot : ℕ) → List ℕ
-rowAt places spot = flags (tagsAt places spot) 0 19
-
-row-tells : (tags : List ℕ) (tag : ℕ) → tag < 19 → eqb (getD (flags tags 0 19) tag 0) 1 ≡ member tag tags
-row-tells tags tag h = flag-at tags 0 19 tag h ∙ ap (λ (j : ℕ). member j tags) (zero-add tag)
-
--- all rows, the last that of a control's guard
-unfoldable pub rows : List (List ℕ)
-rows = rowAt 0 spotFunction ∷ rowAt 0 spotExpression ∷ rowAt 0 spotPattern ∷ rowAt 0 spotGuard ∷ rowAt 0 spotClause ∷ rowAt 0 spotValue ∷ rowAt 1 spotGuard ∷ []
-
--- with places, a guard is one of a control
-guard-module : (places : ℕ) → places ≡ 0 → tagsAt places spotGuard ≡ tagsAt 0 spotGuard
-guard-module places e = ap (λ (p : ℕ). tagsAt p spotGuard) e
-
-guard-control : (places : ℕ) → ¬ (places ≡ 0) → tagsAt places spotGuard ≡ tagsAt 1 spotGuard
+no-tags : (places spot : ℕ) → ¬ (spot ≡ spotExpression) → ¬ (spot ≡ spotValue) → ¬ (spot ≡ spotPattern) → ¬ (spot ≡ spotGuard) → ¬ (spot ≡ spotClause) → ¬ (spot ≡ spotFunction) → tagsAt places spot ≡ []
 unfolding tagsAt
-guard-control places d = rw (eqb-apart places 0 d)
+no-tags places zero a b c d e f = absurd (f refl)
+no-tags places (suc zero) a b c d e f = absurd (a refl)
+no-tags places (suc (suc zero)) a b c d e f = absurd (c refl)
+no-tags places (suc (suc (suc zero))) a b c d e f = absurd (d refl)
+no-tags places (suc (suc (suc (suc zero)))) a b c d e f = absurd (e refl)
+no-tags places (suc (suc (suc (suc (suc zero))))) a b c d e f = absurd (b refl)
+no-tags places (suc (suc (suc (suc (suc (suc spot)))))) a b c d e f = refl
 
--- no list of tags holds one past the rows
-small : List ℕ → Bool
-small [] = true
-small (x ∷ xs) = ltb x 19 && small xs
+-- lists with the same members
+within : List ℕ → List ℕ → Bool
+within [] js = true
+within (k ∷ ks) js = member k js && within ks js
 
-past-small : (tag : ℕ) (tags : List ℕ) → 19 ≤ tag → small tags ≡ true → false ≡ member tag tags
-unfolding small member
-past-small tag [] h s = refl
-past-small tag (x ∷ xs) h s =
-    let below = ltb-true x 19 (and-left (ltb x 19) (small xs) s) in
-    past-small tag xs h (and-right (ltb x 19) (small xs) s) ∙ sym (rw (eqb-apart tag x (omega arith)))
+within-member : (x : ℕ) (ks js : List ℕ) → within ks js ≡ true → member x ks ≡ true → member x js ≡ true
+unfolding within member
+within-member x [] js w m = true-not-false m refl
+within-member x (k ∷ ks) js w m = elim (or-true (eqb x k) (member x ks) m) [
+  | inl e ↦ ap (λ (j : ℕ). member j js) (eqb-true x k e) ∙ and-left (member k js) (within ks js) w
+  | inr e ↦ within-member x ks js (and-right (member k js) (within ks js) w) e
+]
 
-small-guard : (places : ℕ) → Dec (places ≡ 0) → small (tagsAt places spotGuard) ≡ true
-unfolding small tagsAt
-small-guard places (yes e) = ap small (guard-module places e)
-small-guard places (no d) = ap small (guard-control places d)
+same-truth : (a b : Bool) → (a ≡ true → b ≡ true) → (b ≡ true → a ≡ true) → a ≡ b
+same-truth true b f g = sym (f refl)
+same-truth false true f g = g refl
+same-truth false false f g = refl
 
-small-tags : (places spot : ℕ) → small (tagsAt places spot) ≡ true
-unfolding small tagsAt
-small-tags places zero = refl
-small-tags places (suc zero) = refl
-small-tags places (suc (suc zero)) = refl
-small-tags places (suc (suc (suc zero))) = small-guard places (ℕ-discrete places 0)
-small-tags places (suc (suc (suc (suc zero)))) = refl
-small-tags places (suc (suc (suc (suc (suc zero))))) = refl
-small-tags places (suc (suc (suc (suc (suc (suc spot)))))) = refl
+same-members : (x : ℕ) (ks js : List ℕ) → within ks js ≡ true → within js ks ≡ true → member x ks ≡ member x js
+same-members x ks js a b = same-truth (member x ks) (member x js) (within-member x ks js a) (within-member x js ks b)
 
-pub stands-tag : (places spot tag : ℕ) → 19 ≤ tag → false ≡ member tag (tagsAt places spot)
-stands-tag places spot tag h = past-small tag (tagsAt places spot) h (small-tags places spot)
+-- n numbers from one on, and whether one is among them
+run : (first n : ℕ) → List ℕ
+run first zero = []
+run first (suc n) = first ∷ run (suc first) n
 
-pub stands-spot : (places spot tag : ℕ) → 6 ≤ spot → false ≡ member tag (tagsAt places spot)
-unfolding tagsAt member
-stands-spot places zero tag h = absurd (omega arith)
-stands-spot places (suc zero) tag h = absurd (omega arith)
-stands-spot places (suc (suc zero)) tag h = absurd (omega arith)
-stands-spot places (suc (suc (suc zero))) tag h = absurd (omega arith)
-stands-spot places (suc (suc (suc (suc zero)))) tag h = absurd (omega arith)
-stands-spot places (suc (suc (suc (suc (suc zero))))) tag h = absurd (omega arith)
-stands-spot places (suc (suc (suc (suc (suc (suc spot)))))) tag h = refl
+run-holds : (x first n : ℕ) → member x (run first n) ≡ true → (first ≤ x) × (x < first + n)
+unfolding run member
+run-holds x first zero m = true-not-false m refl
+run-holds x first (suc n) m = elim (or-true (eqb x first) (member x (run (suc first) n)) m) [
+  | inl e ↦ let i = eqb-true x first e in (omega arith, omega arith)
+  | inr e ↦ let h = run-holds x (suc first) n e in (omega (arith, h .0), omega (arith, h .1))
+]
 
--- the default past the rows does not matter
-pub stands-other : (places spot tag : ℕ) (past : List ℕ) → tag < 19 → spot < 6 → ¬ (spot ≡ spotGuard) → eqb (getD (getD rows spot past) tag 0) 1 ≡ member tag (tagsAt places spot)
-unfolding rows rowAt tagsAt
-stands-other places zero tag past ht hs d = row-tells (tagsAt 0 spotFunction) tag ht
-stands-other places (suc zero) tag past ht hs d = row-tells (tagsAt 0 spotExpression) tag ht
-stands-other places (suc (suc zero)) tag past ht hs d = row-tells (tagsAt 0 spotPattern) tag ht
-stands-other places (suc (suc (suc zero))) tag past ht hs d = absurd (d refl)
-stands-other places (suc (suc (suc (suc zero)))) tag past ht hs d = row-tells (tagsAt 0 spotClause) tag ht
-stands-other places (suc (suc (suc (suc (suc zero))))) tag past ht hs d = row-tells (tagsAt 0 spotValue) tag ht
-stands-other places (suc (suc (suc (suc (suc (suc spot)))))) tag past ht hs d = absurd (omega arith)
+run-has : (x first n : ℕ) → first ≤ x → x < first + n → member x (run first n) ≡ true
+unfolding run member
+run-has x first zero h g = absurd (omega arith)
+run-has x first (suc n) h g = elim (ℕ-discrete x first) [
+  | yes e ↦ or-left (member x (run (suc first) n)) (eqb-of x first e)
+  | no d ↦ or-right (eqb x first) (run-has x (suc first) n (omega arith) (omega arith))
+]
 
-pub stands-guard : (places spot tag : ℕ) → tag < 19 → spot ≡ spotGuard → places ≡ 0 → eqb (getD (rowAt 0 spotGuard) tag 0) 1 ≡ member tag (tagsAt places spot)
-unfolding rowAt
-stands-guard places spot tag ht e z = row-tells (tagsAt 0 spotGuard) tag ht ∙ rw (e, z)
+in-run : (x first n : ℕ) → member x (run first (suc n)) ≡ (leb first x && leb x (first + n))
+in-run x first n =
+    same-truth (member x (run first (suc n))) (leb first x && leb x (first + n))
+    (λ m. let h = run-holds x first (suc n) m in and-of (leb-of first x (h .0)) (leb-of x (first + n) (omega (arith, h .1))))
+    (λ b. let h = leb-true first x (and-left (leb first x) (leb x (first + n)) b) in
+    let g = leb-true x (first + n) (and-right (leb first x) (leb x (first + n)) b) in
+    run-has x first (suc n) h (omega arith))
 
-pub stands-control : (places spot tag : ℕ) → tag < 19 → spot ≡ spotGuard → ¬ (places ≡ 0) → eqb (getD (rowAt 1 spotGuard) tag 0) 1 ≡ member tag (tagsAt places spot)
-unfolding rowAt
-stands-control places spot tag ht e z = row-tells (tagsAt 1 spotGuard) tag ht ∙ rw (e, guard-control places z)
+-- whether a tag may stand in a guard, by the tests of the code
+module _ (places tag : ℕ) where
+  pub guard-call : tag ≡ tagCall → true ≡ member tag (tagsAt places spotGuard)
+  unfolding tagsAt member
+  guard-call e = sym (rw e refl)
+
+  module _ (d : ¬ (tag ≡ tagCall)) where
+    pub guard-control : ¬ (places ≡ 0) → (r : Bool) → r ≡ (leb 1 tag && leb tag 7) → r ≡ member tag (tagsAt places spotGuard)
+    unfolding tagsAt within run member
+    guard-control z r h =
+        h ∙ sym (in-run tag 1 6) ∙ sym (rw (eqb-apart tag 8 d) at (same-members tag (1 ∷ 2 ∷ 3 ∷ 5 ∷ 8 ∷ 4 ∷ 6 ∷ 7 ∷ []) (8 ∷ 1 ∷ 2 ∷ 3 ∷ 4 ∷ 5 ∷ 6 ∷ 7 ∷ []) refl refl)) ∙ rw (eqb-apart places 0 z, eqb-apart tag 8 d) refl
+
+    pub guard-pid : places ≡ 0 → tag ≡ tagPid → false ≡ member tag (tagsAt places spotGuard)
+    unfolding tagsAt member
+    guard-pid z e = sym (rw (z, e) refl)
+
+    pub guard-module : places ≡ 0 → ¬ (tag ≡ tagPid) → (r : Bool) → r ≡ (leb 1 tag && leb tag 5) → r ≡ member tag (tagsAt places spotGuard)
+    unfolding tagsAt run member
+    guard-module z p r h = h ∙ sym (rw (eqb-apart tag 4 p) at (in-run tag 1 4)) ∙ sym (rw (z, eqb-apart tag 8 d) refl)
+
+-- whether a tag may stand at a spot, by the tests of the code
+module _ (places spot tag : ℕ) where
+  pub stands-expression : spot ≡ spotExpression → (r : Bool) → r ≡ (leb 1 tag && leb tag 16) → r ≡ member tag (tagsAt places spot)
+  unfolding tagsAt run
+  stands-expression e r h = h ∙ rw e (sym (in-run tag 1 15))
+
+  pub stands-value : spot ≡ spotValue → (r : Bool) → r ≡ (leb 2 tag && leb tag 7) → r ≡ member tag (tagsAt places spot)
+  unfolding tagsAt run
+  stands-value e r h = h ∙ rw e (sym (in-run tag 2 5))
+
+  pub stands-no-pid : spot ≡ spotPattern → tag ≡ tagPid → false ≡ member tag (tagsAt places spot)
+  unfolding tagsAt member
+  stands-no-pid e p = sym (rw (e, p) refl)
+
+  pub stands-pattern : spot ≡ spotPattern → ¬ (tag ≡ tagPid) → (r : Bool) → r ≡ (leb 1 tag && leb tag 7) → r ≡ member tag (tagsAt places spot)
+  unfolding tagsAt run member
+  stands-pattern e p r h = h ∙ sym (rw (eqb-apart tag 4 p) at (in-run tag 1 6)) ∙ sym (rw e refl)
+
+  pub stands-guard : spot ≡ spotGuard → (r : Bool) → r ≡ member tag (tagsAt places spotGuard) → r ≡ member tag (tagsAt places spot)
+  stands-guard e r h = h ∙ rw e refl
+
+  pub stands-clause : spot ≡ spotClause → eqb tag 17 ≡ member tag (tagsAt places spot)
+  unfolding tagsAt member
+  stands-clause e = rw e (sym (or-nothing (eqb tag 17)))
+
+  pub stands-function : spot ≡ spotFunction → eqb tag 18 ≡ member tag (tagsAt places spot)
+  unfolding tagsAt member
+  stands-function e = rw e (sym (or-nothing (eqb tag 18)))
+
+  pub stands-nowhere : ¬ (spot ≡ spotExpression) → ¬ (spot ≡ spotValue) → ¬ (spot ≡ spotPattern) → ¬ (spot ≡ spotGuard) → ¬ (spot ≡ spotClause) → ¬ (spot ≡ spotFunction) → false ≡ member tag (tagsAt places spot)
+  unfolding member
+  stands-nowhere a b c d e f = sym (rw (no-tags places spot a b c d e f) refl)
 
 -- how many k a tag has
 pub limit-pid : (places tag : ℕ) → tag ≡ tagPid → places ≡ kLimit places tag
@@ -130,6 +154,13 @@ own-call spot tag e c = sym (rw (eqb-of spot spotGuard e, eqb-of tag tagCall c))
 pub own-value : (spot tag : ℕ) → spot ≡ spotGuard → ¬ (tag ≡ tagCall) → spotValue ≡ ownSpot spot tag
 unfolding ownSpot
 own-value spot tag e d = sym (rw (eqb-of spot spotGuard e, eqb-apart tag tagCall d))
+
+-- whether a tag lies between two others
+pub below-low : (low tag high : ℕ) → tag < low → false ≡ (leb low tag && leb tag high)
+below-low low tag high h = sym (rw (leb-over low tag h))
+
+pub above-low : (low tag high : ℕ) → low ≤ tag → leb tag high ≡ (leb low tag && leb tag high)
+above-low low tag high h = sym (rw (leb-of low tag h))
 
 -- whether n is in a tag's range, by the tests of the code
 module _ (t n a : ℕ) (ea : a ≡ rowOf t .least) where

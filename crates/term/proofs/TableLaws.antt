@@ -1,12 +1,14 @@
 -- The code's tables hold what the table of the 18 tags says: one test computed over each column.
-use Prim.Native.Nat.{ℕ, suc, _+_, _≤_}
+use Prim.Native.Nat.{ℕ, zero, suc, _+_, _≤_}
 use mathlib.Core.Path.{_≡_, refl, sym, _∙_}
-use mathlib.Core.Bool.{cond}
-use mathlib.Core.List.{map}
+use mathlib.Core.Bool.{Bool, true, cond, _&&_}
+use mathlib.Core.List.{List, [], _∷_, map}
+use mir.Syntax.{w32}
+use mir.Val.{Fits}
 use native.Mathlib.Omega.{arith}
-use lib.Dec.{eqb}
+use lib.Dec.{eqb, leb}
 use lib.ListN.{getD, List·getD-map, List·getD-eq-default}
-use Rattle.lists.proofs.Tests.{eqb-of, eqb-apart, cond-true, cond-false}
+use Rattle.lists.proofs.Tests.{eqb-of, eqb-apart, leb-true, cond-true, cond-false, and-left, and-right}
 use Rattle.term.specs.Words.{tagOf, nOf, tagInteger}
 use Rattle.term.specs.Table.{Children, alike, body, ofClause, ofCase, ofReceive, Row, noRow, table, rowOf, childCount, arity}
 use Rattle.term.specs.Kinds.{kindOf, ChildCount, kindBody, kindCase}
@@ -15,6 +17,17 @@ use Rattle.term.specs.Kinds.{kindOf, ChildCount, kindBody, kindCase}
 pub at-row : (column : Row → ℕ) (tag : ℕ) → column (rowOf tag) ≡ getD (map column table) tag (column noRow)
 unfolding rowOf
 at-row column tag = sym (List·getD-map column table tag noRow)
+
+-- a column of small numbers
+unfoldable pub allSmall : List ℕ → Bool
+allSmall [] = true
+allSmall (x ∷ column) = leb x 255 && allSmall column
+
+pub small-at : (column : List ℕ) (tag : ℕ) → allSmall column ≡ true → Fits w32 (getD column tag 0)
+unfolding allSmall
+small-at [] tag e = record { fits = omega arith }
+small-at (x ∷ column) zero e = let h = leb-true x 255 (and-left _ _ e) in record { fits = omega arith }
+small-at (x ∷ column) (suc tag) e = small-at column tag (and-right (leb x 255) _ e)
 
 -- past the rows stands no row
 pub past-rows : (tag : ℕ) → 19 ≤ tag → noRow ≡ rowOf tag

@@ -1,25 +1,34 @@
 // Shape: reading a row in order, with the spots where its terms stand.
+use crate::tables::ALIKE;
 use crate::tables::BODY;
 use crate::tables::OF_CASE;
 use crate::tables::OF_CLAUSE;
 use crate::tables::OF_RECEIVE;
-use crate::tables::ROWS;
 use crate::tables::below;
 use crate::tables::greatest;
 use crate::tables::least;
 use crate::tables::limit;
+use crate::words::ATOM;
 use crate::words::CALL;
+use crate::words::CHECK;
+use crate::words::CLAUSE;
+use crate::words::FUNCTION;
 use crate::words::INTEGER;
+use crate::words::NIL;
 use crate::words::PID;
+use crate::words::TUPLE;
+use crate::words::VARIABLE;
 use crate::words::k;
 use crate::words::n;
 use crate::words::tag;
 ghost use mathlib.Core.Path.{_≡_};
-ghost use mathlib.Core.Bool.{_&&_};
+ghost use mathlib.Core.Bool.{true, _&&_};
 ghost use lib.Dec.{leb};
+ghost use lib.ListN.{replicate};
 ghost use Rattle.lists.specs.Lists.{member};
-ghost use Rattle.term.specs.Table.{rowOf, tagsAt, kLimit, fits, ownSpot};
-ghost use Rattle.term.specs.Reading.{Reads, RunsOf, oneRun};
+ghost use Rattle.term.specs.Words.{nOf};
+ghost use Rattle.term.specs.Table.{childSpots, rowOf, tagsAt, kLimit, fits, ownSpot, spotGuard};
+ghost use Rattle.term.specs.Reading.{Common, Reads, ReadsAlike, RunsOf, ValueWord, oneRun};
 
 // The spots where a term stands.
 pub const FUNCTION_SPOT: usize = 0;
@@ -34,53 +43,81 @@ pub const CLAUSE_SPOT: usize = 4;
 
 pub const VALUE: usize = 5;
 
-// How many spots there are, and the row of a control's guard.
-const SPOTS: usize = 6;
+// The words of cons and of nil, and those of atoms.
+const CONS_WORD: u32 = 100794368;
 
-const CONTROL_GUARD: usize = 6;
+const NIL_WORD: u32 = 83886080;
 
-// The tags that may stand at each spot.
-const STANDS: [[u32; 19]; 7] = [
-    [0, 0, 0, 0, 0, 0, 0, 0, 0, 0, 0, 0, 0, 0, 0, 0, 0, 0, 1],
-    [0, 1, 1, 1, 1, 1, 1, 1, 1, 1, 1, 1, 1, 1, 1, 1, 1, 0, 0],
-    [0, 1, 1, 1, 0, 1, 1, 1, 0, 0, 0, 0, 0, 0, 0, 0, 0, 0, 0],
-    [0, 1, 1, 1, 0, 1, 0, 0, 1, 0, 0, 0, 0, 0, 0, 0, 0, 0, 0],
-    [0, 0, 0, 0, 0, 0, 0, 0, 0, 0, 0, 0, 0, 0, 0, 0, 0, 1, 0],
-    [0, 0, 1, 1, 1, 1, 1, 1, 0, 0, 0, 0, 0, 0, 0, 0, 0, 0, 0],
-    [0, 1, 1, 1, 1, 1, 1, 1, 1, 0, 0, 0, 0, 0, 0, 0, 0, 0, 0],
-];
+const FIRST_ATOM: u32 = 33554432;
 
-// Whether a tag may stand at a spot; a control's guard, where there are places, holds values too.
-pub fn stands(places: u32, spot: usize, tag: usize) -> bool
+const LAST_ATOM: u32 = 33554687;
+
+// Whether a tag lies between two others.
+pub fn between(low: u32, tag: u32, high: u32) -> bool
+    ensures { λ r. ⌜ r ≡ (leb low tag && leb tag high) ⌝ }
+{
+    if tag < low {
+        return false;
+    }
+    tag <= high
+}
+
+// Whether a tag may stand at a guard; a control's guard, where there are places, holds values too.
+pub fn stands_in_guard(places: u32, tag: u32) -> bool
+    ensures { λ r. ⌜ r ≡ member tag (tagsAt places spotGuard) ⌝ }
+{
+    if tag == CALL {
+        return true;
+    }
+    if places != 0 {
+        return between(VARIABLE, tag, TUPLE);
+    }
+    if tag == PID {
+        return false;
+    }
+    between(VARIABLE, tag, NIL)
+}
+
+// Whether a tag may stand at a spot.
+pub fn stands(places: u32, spot: usize, tag: u32) -> bool
     ensures { λ r. ⌜ r ≡ member tag (tagsAt places spot) ⌝ }
 {
-    if ROWS <= tag {
-        return false;
+    if spot == EXPRESSION {
+        return between(VARIABLE, tag, CHECK);
     }
-    if SPOTS <= spot {
-        return false;
+    if spot == VALUE {
+        return between(ATOM, tag, TUPLE);
     }
-    if spot != GUARD {
-        return STANDS[spot][tag] == 1;
+    if spot == PATTERN {
+        if tag == PID {
+            return false;
+        }
+        return between(VARIABLE, tag, TUPLE);
     }
-    if places == 0 {
-        return STANDS[GUARD][tag] == 1;
+    if spot == GUARD {
+        return stands_in_guard(places, tag);
     }
-    STANDS[CONTROL_GUARD][tag] == 1
+    if spot == CLAUSE_SPOT {
+        return tag == CLAUSE;
+    }
+    if spot == FUNCTION_SPOT {
+        return tag == FUNCTION;
+    }
+    false
 }
 
 // How many k a tag has; a pid's are the places.
-pub fn k_limit(places: u32, tag: usize) -> u32
+pub fn k_limit(places: u32, tag: u32) -> u32
     ensures { λ r. ⌜ r ≡ kLimit places tag ⌝ }
 {
-    if tag == PID as usize {
+    if tag == PID {
         return places;
     }
     limit(tag)
 }
 
 // Whether a word of this tag may have this n.
-pub fn n_fits(tag: usize, n: u32) -> bool
+pub fn n_fits(tag: u32, n: u32) -> bool
     ensures { λ r. ⌜ r ≡ (leb (rowOf tag .least) n && leb n (rowOf tag .greatest)) ⌝ }
 {
     if n < least(tag) {
@@ -93,7 +130,7 @@ pub fn n_fits(tag: usize, n: u32) -> bool
 pub fn may_stand(places: u32, spot: usize, w: u32) -> bool
     ensures { λ r. ⌜ r ≡ fits places spot w ⌝ }
 {
-    let t = tag(w) as usize;
+    let t = tag(w);
     if !stands(places, spot, t) {
         return false;
     }
@@ -146,7 +183,7 @@ pub fn runs(spot: usize, w: u32) -> Spots
 {
     let times = n(w) as usize;
     let t = tag(w);
-    let kind = below(t as usize);
+    let kind = below(t);
     if kind == OF_CLAUSE {
         return Spots {
             first: PATTERN,
@@ -176,6 +213,100 @@ pub fn runs(spot: usize, w: u32) -> Spots
     one_run(own_spot(spot, t), times)
 }
 
+// Whether the children of a word, n of them, stand at its own spot.
+pub fn alike(spot: usize, w: u32) -> bool
+    ensures { λ r. ⌜ (r ≡ true → childSpots spot w ≡ replicate (nOf w) spot) ⌝ }
+{
+    let t = tag(w);
+    if below(t) != ALIKE {
+        return false;
+    }
+    if n(w) == 0 {
+        return true;
+    }
+    own_spot(spot, t) == spot
+}
+
+// Cons, nil or an atom: the words of which most values are made.
+pub fn value_word(w: u32) -> bool
+    ensures { λ r. ⌜ (r ≡ true → ValueWord w) ⌝ }
+{
+    if w == CONS_WORD {
+        return true;
+    }
+    if w == NIL_WORD {
+        return true;
+    }
+    if w < FIRST_ATOM {
+        return false;
+    }
+    w <= LAST_ATOM
+}
+
+// Whether a word is one of those of which most values are made, cons, an atom or nil, at a spot that takes them: so told at once.
+pub fn common(spot: usize, w: u32) -> bool
+    ensures { λ r. ⌜ (r ≡ true → Common spot w) ⌝ }
+{
+    if spot == EXPRESSION {
+        return value_word(w);
+    }
+    if spot == VALUE {
+        return value_word(w);
+    }
+    if spot == PATTERN {
+        return value_word(w);
+    }
+    false
+}
+
+// Where words end whose children stand at their own spot, or the first that fails, or one with other children: so many terms are to come from it on.
+pub enum Run {
+    Ends(usize),
+    Fails(usize),
+    Turns(usize, usize),
+}
+
+// Reads so many terms at a spot, from a position on, as far as the children stand at that spot too.
+pub fn read_alike(row: &[u32], places: u32, at: usize, spot: usize, times: usize) -> Run
+    ensures { λ r. ⌜ ReadsAlike places (now (row .entry)) at spot times r ⌝ }
+{
+    let mut a = at;
+    let mut left = times;
+    while 0 < left {
+        if row.len() <= a {
+            return Run::Fails(a);
+        }
+        let w = row[a];
+        if common(spot, w) {
+            if left <= row.len() {
+                a += 1;
+                left = left - 1 + n(w) as usize;
+                continue;
+            }
+        }
+        if !may_stand(places, spot, w) {
+            return Run::Fails(a);
+        }
+        if tag(w) == INTEGER {
+            if row.len() - a < 2 {
+                return Run::Fails(a + 1);
+            }
+            a += 2;
+            left -= 1;
+            continue;
+        }
+        if !alike(spot, w) {
+            return Run::Turns(a, left);
+        }
+        if row.len() < left {
+            return Run::Turns(a, left);
+        }
+        a += 1;
+        left = left - 1 + n(w) as usize;
+    }
+    Run::Ends(a)
+}
+
 // Where reading ends, or the first word at which it fails.
 pub enum Reading {
     Ends(usize),
@@ -186,34 +317,25 @@ pub enum Reading {
 pub fn read(row: &[u32], places: u32, at: usize, spot: usize, times: usize) -> Reading
     ensures { λ r. ⌜ Reads places (now (row .entry)) at spot times r ⌝ }
 {
-    if times == 0 {
-        return Reading::Ends(at);
-    }
-    if row.len() <= at {
-        return Reading::Fails(at);
-    }
-    let w = row[at];
-    if !may_stand(places, spot, w) {
-        return Reading::Fails(at);
-    }
-    if tag(w) == INTEGER {
-        if row.len() - at < 2 {
-            return Reading::Fails(at + 1);
+    let run = read_alike(row, places, at, spot, times);
+    match run {
+        Run::Ends(a) => Reading::Ends(a),
+        Run::Fails(p) => Reading::Fails(p),
+        Run::Turns(turn, left) => {
+            let r = runs(spot, row[turn]);
+            let first = read(row, places, turn + 1, r.first, r.firsts);
+            let Reading::Ends(a) = first else {
+                return first;
+            };
+            let second = read(row, places, a, r.second, r.seconds);
+            let Reading::Ends(b) = second else {
+                return second;
+            };
+            let third = read(row, places, b, r.third, r.thirds);
+            let Reading::Ends(c) = third else {
+                return third;
+            };
+            read(row, places, c, spot, left - 1)
         }
-        return read(row, places, at + 2, spot, times - 1);
     }
-    let r = runs(spot, w);
-    let first = read(row, places, at + 1, r.first, r.firsts);
-    let Reading::Ends(a) = first else {
-        return first;
-    };
-    let second = read(row, places, a, r.second, r.seconds);
-    let Reading::Ends(b) = second else {
-        return second;
-    };
-    let third = read(row, places, b, r.third, r.thirds);
-    let Reading::Ends(c) = third else {
-        return third;
-    };
-    read(row, places, c, spot, times - 1)
 }

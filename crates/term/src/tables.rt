@@ -10,11 +10,12 @@ ghost use Rattle.term.specs.Table.{rowOf};
 ghost use Rattle.term.specs.Kinds.{kindOf, ChildCount};
 
 // How many rows the table has; row 0 is no tag's.
-pub const ROWS: usize = 19;
+const ROWS: u32 = 19;
 
-const LEAST: [u32; 19] = [0, 0, 0, 0, 0, 0, 2, 0, 2, 0, 1, 2, 1, 0, 2, 0, 0, 3, 0];
+// Columns of bytes, where numbers are small: a constant array is built anew wherever it is read, and bytes are built at once.
+const LEAST: [u8; 19] = [0, 0, 0, 0, 0, 0, 2, 0, 2, 0, 1, 2, 1, 0, 2, 0, 0, 3, 0];
 
-const GREATEST: [u32; 19] = [0, 0, 0, 0, 0, 0, 2, 8, 2, 8, 8, 2, 8, 8, 2, 0, 0, 3, 8];
+const GREATEST: [u8; 19] = [0, 0, 0, 0, 0, 0, 2, 8, 2, 8, 8, 2, 8, 8, 2, 0, 0, 3, 8];
 
 // Any k: only the rules know how many functions there are.
 const ANY: u32 = 65536;
@@ -52,42 +53,42 @@ pub const OF_CASE: u32 = 3;
 
 pub const OF_RECEIVE: u32 = 4;
 
-const CHILDREN: [u32; 19] = [0, 0, 0, 0, 0, 0, 0, 0, 0, 0, 3, 0, 4, 0, 0, 0, 0, 2, 1];
+const CHILDREN: [u8; 19] = [0, 0, 0, 0, 0, 0, 0, 0, 0, 0, 3, 0, 4, 0, 0, 0, 0, 2, 1];
 
-pub fn least(tag: usize) -> u32
+pub fn least(tag: u32) -> u32
     ensures { λ r. ⌜ r ≡ rowOf tag .least ⌝ }
 {
     if ROWS <= tag {
         return 0;
     }
-    LEAST[tag]
+    LEAST[tag as usize] as u32
 }
 
-pub fn greatest(tag: usize) -> u32
+pub fn greatest(tag: u32) -> u32
     ensures { λ r. ⌜ r ≡ rowOf tag .greatest ⌝ }
 {
     if ROWS <= tag {
         return 0;
     }
-    GREATEST[tag]
+    GREATEST[tag as usize] as u32
 }
 
-pub fn limit(tag: usize) -> u32
+pub fn limit(tag: u32) -> u32
     ensures { λ r. ⌜ r ≡ rowOf tag .limit ⌝ }
 {
     if ROWS <= tag {
         return 0;
     }
-    LIMIT[tag]
+    LIMIT[tag as usize]
 }
 
-pub fn below(tag: usize) -> u32
+pub fn below(tag: u32) -> u32
     ensures { λ r. ⌜ r ≡ kindOf (rowOf tag .children) ⌝ }
 {
     if ROWS <= tag {
         return ALIKE;
     }
-    CHILDREN[tag]
+    CHILDREN[tag as usize] as u32
 }
 
 // How many children a word has.
@@ -95,7 +96,7 @@ pub fn children(w: u32) -> usize
     ensures { λ r. ⌜ ChildCount w r ⌝ }
 {
     let count = n(w) as usize;
-    let kind = below(tag(w) as usize);
+    let kind = below(tag(w));
     if kind == BODY {
         return 1;
     }

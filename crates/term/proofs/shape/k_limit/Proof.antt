@@ -4,9 +4,6 @@ use Rattle.term.proofs.SpotLaws.{limit-pid, limit-other}
 use Rattle.term.proofs.shape.k_limit.Statement.{statement}
 use Rattle.term.proofs.shape.k_limit.Tie as tie
 
-cast-if1 : tie.Need-cast-if1
-cast-if1 c = search needs
-
 returns : tie.Need-returns
 returns c = search limit-pid
 
@@ -17,4 +14,4 @@ returns-2 : tie.Need-returns-2
 returns-2 c = search limit-other
 
 pub k-limit-spec : {M : Type 1} → statement M
-k-limit-spec = tie.close (tie.spec cast-if1 returns limit-requires returns-2)
+k-limit-spec = tie.close (tie.spec returns limit-requires returns-2)

@@ -7,9 +7,6 @@ use Rattle.term.proofs.shape.may_stand.Tie as tie
 tag-requires : tie.Need-tag-requires
 tag-requires c κs = search needs
 
-cast-t : tie.Need-cast-t
-cast-t c = search needs
-
 stands-requires : tie.Need-stands-requires
 stands-requires c κs = search needs
 
@@ -39,7 +36,6 @@ may-stand-spec =
     tie.close
     (tie.spec
     tag-requires
-    cast-t
     stands-requires
     returns
     n-requires

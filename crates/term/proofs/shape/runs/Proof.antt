@@ -13,9 +13,6 @@ cast-times c = search needs
 tag-requires : tie.Need-tag-requires
 tag-requires c κs = search needs
 
-cast-below : tie.Need-cast-below
-cast-below c = search needs
-
 below-requires : tie.Need-below-requires
 below-requires c κs = search needs
 
@@ -53,7 +50,6 @@ runs-spec =
     n-requires
     cast-times
     tag-requires
-    cast-below
     below-requires
     returns
     returns-2

@@ -1,9 +1,10 @@
 -- `term::tables::below` meets its contract.
-use mathlib.Core.Path.{sym, ap}
+use mathlib.Core.Path.{refl, sym, ap}
 use borrow.Author.Needs.{needs}
+use mathlib.Core.List.{map}
 use Rattle.term.specs.Table.{table}
 use Rattle.term.specs.Kinds.{kindOf}
-use Rattle.term.proofs.TableLaws.{at-row, past-rows}
+use Rattle.term.proofs.TableLaws.{at-row, past-rows, allSmall, small-at}
 use Rattle.term.proofs.tables.below.Statement.{statement}
 use Rattle.term.proofs.tables.below.Tie as tie
 
@@ -11,15 +12,16 @@ returns : tie.Need-returns
 unfolding kindOf
 returns c = ap (λ row. kindOf (row .children)) (past-rows (c .before .args .tag) (search needs))
 
-mul-result : tie.Need-mul-result
-mul-result c = search needs
-
 array-read-result : tie.Need-array-read-result
 array-read-result c = search needs
+
+cast-result : tie.Need-cast-result
+unfolding table allSmall kindOf
+cast-result c = small-at (map (λ row. kindOf (row .children)) table) (c .before .args .tag) refl
 
 returns-2 : tie.Need-returns-2
 unfolding table kindOf
 returns-2 c = sym (at-row (λ row. kindOf (row .children)) (c .before .args .tag))
 
 pub below-spec : {M : Type 1} → statement M
-below-spec = tie.close (tie.spec returns mul-result array-read-result returns-2)
+below-spec = tie.close (tie.spec returns array-read-result cast-result returns-2)

@@ -16,10 +16,6 @@ cast-count c = search needs
 tag-requires : tie.Need-tag-requires
 tag-requires c κs = search needs
 
--- src/tables.rt:69:22
-cast-below : tie.Need-cast-below
-cast-below c = search needs
-
 -- src/tables.rt:69:9
 below-requires : tie.Need-below-requires
 below-requires c κs = search needs
@@ -47,7 +43,6 @@ children-spec =
     n-requires
     cast-count
     tag-requires
-    cast-below
     below-requires
     returns
     add-result

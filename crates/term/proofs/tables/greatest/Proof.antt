@@ -1,23 +1,25 @@
 -- `term::tables::greatest` meets its contract.
-use mathlib.Core.Path.{sym, ap}
+use mathlib.Core.Path.{refl, sym, ap}
 use borrow.Author.Needs.{needs}
+use mathlib.Core.List.{map}
 use Rattle.term.specs.Table.{table}
-use Rattle.term.proofs.TableLaws.{at-row, past-rows}
+use Rattle.term.proofs.TableLaws.{at-row, past-rows, allSmall, small-at}
 use Rattle.term.proofs.tables.greatest.Statement.{statement}
 use Rattle.term.proofs.tables.greatest.Tie as tie
 
 returns : tie.Need-returns
 returns c = ap (λ row. row .greatest) (past-rows (c .before .args .tag) (search needs))
 
-mul-result : tie.Need-mul-result
-mul-result c = search needs
-
 array-read-result : tie.Need-array-read-result
 array-read-result c = search needs
+
+cast-result : tie.Need-cast-result
+unfolding table allSmall
+cast-result c = small-at (map (λ row. row .greatest) table) (c .before .args .tag) refl
 
 returns-2 : tie.Need-returns-2
 unfolding table
 returns-2 c = sym (at-row (λ row. row .greatest) (c .before .args .tag))
 
 pub greatest-spec : {M : Type 1} → statement M
-greatest-spec = tie.close (tie.spec returns mul-result array-read-result returns-2)
+greatest-spec = tie.close (tie.spec returns array-read-result cast-result returns-2)
