@@ -14,6 +14,7 @@ pub mod MarkLaws
 pub mod StandLaws
 pub mod BindLaws
 pub mod WalkLaws
+pub mod PlainLaws
 pub mod ControlLaws
 pub mod ModuleLaws
 pub mod FunctionLaws
