@@ -20,5 +20,6 @@ pub mod ModuleLaws
 pub mod FunctionLaws
 pub mod RuleLaws
 pub mod CheckLaws
+pub mod PositionLaws
 pub mod PlaceLaws
 pub mod GoodLaws
