@@ -14,10 +14,12 @@ pub mod MarkLaws
 pub mod StandLaws
 pub mod BindLaws
 pub mod WalkLaws
+pub mod PlainLaws
 pub mod ControlLaws
 pub mod ModuleLaws
 pub mod FunctionLaws
 pub mod RuleLaws
 pub mod CheckLaws
+pub mod PositionLaws
 pub mod PlaceLaws
 pub mod GoodLaws

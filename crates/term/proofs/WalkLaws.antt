@@ -149,21 +149,15 @@ unfolding count
 split end m e = absurd (omega arith)
 split (t then us) m e = record { head = t; tail = us; is = refl; tail-count = omega arith }
 
-let-children : (l : List ℕ) (at owed : ℕ) (ts : Terms) (h : NodeHere l at owed ts) → tagOf (getD l at 0) ≡ tagLet → Split (h .children) 1
-unfolding rowOf table arity childCount
-let-children l at owed ts h e =
+-- of a word whose n is fixed
+fixed-children : (tag m : ℕ) → rowOf tag .least ≡ suc m → rowOf tag .greatest ≡ suc m → ((n : ℕ) → arity tag n ≡ n) → (l : List ℕ) (at owed : ℕ) (ts : Terms) (h : NodeHere l at owed ts)
+    → tagOf (getD l at 0) ≡ tag → Split (h .children) m
+fixed-children tag m least greatest many l at owed ts h e =
     let f = fits-parts (h .places) (h .spot) (getD l at 0) (h .fit) in
-    let lower : 2 ≤ nOf (getD l at 0) = rw e at (f .least-n) in
-    let upper : nOf (getD l at 0) ≤ 2 = rw e at (f .greatest-n) in
-    split (h .children) 1 (omega (arith, rw e at (h .child-count)))
-
-clause-children : (l : List ℕ) (at owed : ℕ) (ts : Terms) (h : NodeHere l at owed ts) → tagOf (getD l at 0) ≡ tagClause → Split (h .children) 2
-unfolding rowOf table arity childCount
-clause-children l at owed ts h e =
-    let f = fits-parts (h .places) (h .spot) (getD l at 0) (h .fit) in
-    let lower : 3 ≤ nOf (getD l at 0) = rw e at (f .least-n) in
-    let upper : nOf (getD l at 0) ≤ 3 = rw e at (f .greatest-n) in
-    split (h .children) 2 (omega (arith, rw e at (h .child-count)))
+    let lower : rowOf tag .least ≤ nOf (getD l at 0) = rw e at (f .least-n) in
+    let upper : nOf (getD l at 0) ≤ rowOf tag .greatest = rw e at (f .greatest-n) in
+    let counted : count (h .children) ≡ nOf (getD l at 0) = (rw e at (h .child-count)) ∙ many (nOf (getD l at 0)) in
+    split (h .children) m (omega (arith, least, greatest))
 
 -- where the parts of a word with an inner scope stand, and where they stop
 pub record Parts (l : List ℕ) (at owed m : ℕ) (ts : Terms) (head : Term) (tail others : Terms) : Type 0 where
@@ -290,12 +284,12 @@ module _ (l : List ℕ) (at owed : ℕ) (marks : List Bool) (arities : List ℕ)
                   ∙ keeps-let arities unique (h .tag) (h .n) (h .k) (h .children) (h .others) scope at checks (rule-kept ts h scope checks m g) (c .head) (c .tail) (c .is) (sym (h .tag-is) ∙ sym et ∙ e)
 
               pub let-broke : (p : ℕ) → first ≡ Broke p → Keeps l at owed marks arities unique before mid first
-              unfolding andThen
+              unfolding andThen rowOf table arity childCount
               let-broke p ep =
                   record {
                     answer = λ ts scope checks s m g.
                         let h = node-at ts s in
-                        let c = let-children l at owed ts h (sym et ∙ e) in
+                        let c = fixed-children tagLet 1 refl refl (λ n. refl) l at owed ts h (sym et ∙ e) in
                         let q = parts l at owed 1 ts h c in
                         let w = agrees-broke _ _ _ first p (hf .answer (c .head then end) scope checks (q .first) m g) ep in
                         agrees-breaks _ _ _ first p (let-walk ts h c scope checks m g ∙ ap (λ (x : Walk). andThen x (let-next h c scope)) w) ep;
@@ -304,12 +298,12 @@ module _ (l : List ℕ) (at owed : ℕ) (marks : List Bool) (arities : List ℕ)
 
               pub let-done : (a : ℕ) → first ≡ Past a → (k : ℕ) → k ≡ kOf (getD l at 0) → (inner : List Bool) → ((scope : List ℕ) → Marks variables marks scope → Marks variables inner (k ∷ scope))
                   → (after : List Bool) (r : Gone) → KeepsBoth l a 1 (owed - 1) inner marks arities unique mid after r → Keeps l at owed marks arities unique before after r
-              unfolding andThen let-next
+              unfolding andThen let-next rowOf table arity childCount
               let-done a ea k ek inner hi after r b =
                   record {
                     answer = λ ts scope checks s m g.
                         let h = node-at ts s in
-                        let c = let-children l at owed ts h (sym et ∙ e) in
+                        let c = fixed-children tagLet 1 refl refl (λ n. refl) l at owed ts h (sym et ∙ e) in
                         let q = parts l at owed 1 ts h c in
                         let w = agrees-past _ _ _ first a (hf .answer (c .head then end) scope checks (q .first) m g) ea in
                         let kk : k ≡ h .k = ek ∙ h .k-is in
@@ -329,12 +323,12 @@ module _ (l : List ℕ) (at owed : ℕ) (marks : List Bool) (arities : List ℕ)
                   (sym (h .tag-is) ∙ sym et ∙ e)
 
               pub clause-broke : (p : ℕ) → first ≡ Broke p → Keeps l at owed marks arities unique before before first
-              unfolding andThen
+              unfolding andThen rowOf table arity childCount
               clause-broke p ep =
                   record {
                     answer = λ ts scope checks s m g.
                         let h = node-at ts s in
-                        let c = clause-children l at owed ts h (sym et ∙ e) in
+                        let c = fixed-children tagClause 2 refl refl (λ n. refl) l at owed ts h (sym et ∙ e) in
                         let q = parts l at owed 2 ts h c in
                         let w = agrees-broke _ _ _ first p (hf .answer (c .head then end) scope checks (q .first) m) ep in
                         agrees-breaks _ _ _ first p (clause-walk ts h c scope checks m g ∙ ap (λ (x : Walk). andThen x (clause-next h c scope)) w) ep;
@@ -342,12 +336,12 @@ module _ (l : List ℕ) (at owed : ℕ) (marks : List Bool) (arities : List ℕ)
                   }
 
               pub clause-done : (a : ℕ) → first ≡ Past a → (after : List Bool) (r : Gone) → KeepsBoth l a 2 (owed - 1) inner marks arities unique before after r → Keeps l at owed marks arities unique before after r
-              unfolding andThen clause-next
+              unfolding andThen clause-next rowOf table arity childCount
               clause-done a ea after r b =
                   record {
                     answer = λ ts scope checks s m g.
                         let h = node-at ts s in
-                        let c = clause-children l at owed ts h (sym et ∙ e) in
+                        let c = fixed-children tagClause 2 refl refl (λ n. refl) l at owed ts h (sym et ∙ e) in
                         let q = parts l at owed 2 ts h c in
                         let w = agrees-past _ _ _ first a (hf .answer (c .head then end) scope checks (q .first) m) ea in
                         agrees-with _ _ _ _ _ r (omega (arith, q .stop, w .stops)) (clause-walk ts h c scope checks m g ∙ ap (λ (x : Walk). andThen x (clause-next h c scope)) (w .is))

@@ -1,13 +1,16 @@
 -- What the code's walks for the rules promise. Assumes nothing: these are definitions.
 use Prim.Native.Nat.{ℕ, suc, _+_, _≤_, _<_}
 use mathlib.Core.Path.{_≡_}
+use mathlib.Core.Logic.{_⊎_}
 use mathlib.Core.Bool.{Bool, true, false}
 use mathlib.Core.List.{List, _∷_, _++_}
 use lib.ListN.{length, drop, getD}
 use Rattle.lists.specs.Lists.{member}
 use Rattle.term.specs.declared.binding.Gone.{Gone}
 use Rattle.term.specs.declared.binding.Gone.the-variants.{Past, Broke}
-use Rattle.term.specs.Words.{tagOf, nOf, kOf}
+use Rattle.term.specs.declared.binding.Plain.{Plain}
+use Rattle.term.specs.declared.binding.Plain.the-variants as plain
+use Rattle.term.specs.Words.{tagOf, nOf, kOf, tagLet, tagClause}
 use Rattle.term.specs.Table.{fits}
 use Rattle.term.specs.Tree.{Terms, wordsOf, count, _then_, end}
 use Rattle.term.specs.Fit.{FitAll}
@@ -61,6 +64,25 @@ pub record Keeps (l : List ℕ) (at owed : ℕ) (marks : List Bool) (arities : L
   pub answer : (ts : Terms) (scope checks : List ℕ) → Stands l at owed ts → Marks variables marks scope → Marks checkNumbers before checks
       → Agrees (at + length (wordsOf ts)) (λ scope′ checks′. Marks checkNumbers after checks′) (keepsAll arities unique scope ts at checks) r
   pub onward : Onward at r
+
+-- a walk has come to a, where so many terms are still to come: what answers for those answers for all
+pub record Gets (l : List ℕ) (at owed : ℕ) (marks : List Bool) (arities : List ℕ) (unique : Bool) (before : List Bool) (a left : ℕ) (met : List Bool) : Type 0 where
+  pub goes : (after : List Bool) (r : Gone) → Keeps l a left marks arities unique met after r → Keeps l at owed marks arities unique before after r
+  pub no-less : at ≤ a
+
+-- it has come to a let or a clause, which keeps its rule
+pub record Opened (l : List ℕ) (at owed : ℕ) (marks : List Bool) (arities : List ℕ) (unique : Bool) (before : List Bool) (a left : ℕ) (met : List Bool) : Type 0 where
+  pub gets : Gets l at owed marks arities unique before a left met
+  pub more : ¬ (left ≡ 0)
+  pub inside : a < length l
+  pub rule : Rules (getD l a 0) marks arities unique met true
+  pub opens : (tagOf (getD l a 0) ≡ tagLet) ⊎ (tagOf (getD l a 0) ≡ tagClause)
+
+-- terms outside patterns, as far as words open no scope
+unfoldable pub KeepsPlain : (l : List ℕ) (at owed : ℕ) (marks : List Bool) (arities : List ℕ) (unique : Bool) (before after : List Bool) → Plain → Type 0
+KeepsPlain l at owed marks arities unique before after (plain.Past a) = Keeps l at owed marks arities unique before after (Past a)
+KeepsPlain l at owed marks arities unique before after (plain.Broke p) = Keeps l at owed marks arities unique before after (Broke p)
+KeepsPlain l at owed marks arities unique before after (plain.Opens a left) = Opened l at owed marks arities unique before a left after
 
 -- terms in one scope, then terms in another
 pub record KeepsBoth (l : List ℕ) (at first second : ℕ) (inner outer : List Bool) (arities : List ℕ) (unique : Bool) (before after : List Bool) (r : Gone) : Type 0 where

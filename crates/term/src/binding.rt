@@ -1,6 +1,9 @@
 // The rules past shape: binding, names of functions, numbers of checks.
+use crate::shape::between;
 use crate::tables::children;
 use crate::words::APPLY;
+use crate::words::ATOM;
+use crate::words::CALL;
 use crate::words::CHECK;
 use crate::words::CLAUSE;
 use crate::words::INTEGER;
@@ -16,7 +19,7 @@ ghost use mathlib.Core.List.{List, _∷_};
 ghost use Prim.Native.Nat.{ℕ};
 ghost use Rattle.term.specs.Words.{tagOf, kOf};
 ghost use Rattle.term.specs.Binding.{names, checksAfter};
-ghost use Rattle.term.specs.Walking.{Marks, Binds, Rules, Keeps, KeepsBoth, variables, checkNumbers};
+ghost use Rattle.term.specs.Walking.{Marks, Binds, Rules, Keeps, KeepsPlain, KeepsBoth, variables, checkNumbers};
 
 // How many variables and how many check numbers there are.
 pub const VARIABLES: usize = 64;
@@ -30,10 +33,10 @@ pub enum Gone {
 }
 
 // The scope with one more variable.
-pub fn with(scope: [bool; 64], v: usize) -> [bool; 64]
-    ensures { λ r. ⌜ ((s : List ℕ) → Marks variables scope s → Marks variables r (v ∷ s)) ⌝ }
+pub fn with(scope: &[bool; 64], v: usize) -> [bool; 64]
+    ensures { λ r. ⌜ ((s : List ℕ) → Marks variables (now (scope .entry)) s → Marks variables r (v ∷ s)) ⌝ }
 {
-    let mut inner = scope;
+    let mut inner = *scope;
     if v < VARIABLES {
         inner[v] = true;
     }
@@ -85,12 +88,12 @@ pub fn named(arities: &[u32], function: usize, count: u32) -> bool
 // Whether a word keeps its rule.
 pub fn keeps_rule(
     w: u32,
-    scope: [bool; 64],
+    scope: &[bool; 64],
     arities: &[u32],
     unique: bool,
     checks: &[bool; 256],
 ) -> bool
-    ensures { λ r. ⌜ Rules w scope (now (arities .entry)) unique (now (checks .entry)) r ⌝ }
+    ensures { λ r. ⌜ Rules w (now (scope .entry)) (now (arities .entry)) unique (now (checks .entry)) r ⌝ }
 {
     let t = tag(w);
     let v = k(w) as usize;
@@ -136,54 +139,96 @@ pub fn meet(w: u32, checks: &mut [bool; 256])
     }
 }
 
+// Where words end that bind nothing, or the word that breaks a rule, or one that opens a scope: so many terms are to come from it on.
+pub enum Plain {
+    Past(usize),
+    Broke(usize),
+    Opens(usize, usize),
+}
+
+// Goes through so many terms outside patterns, from a position on, as far as words open no scope.
+pub fn keep_plain(
+    row: &[u32],
+    at: usize,
+    owed: usize,
+    scope: &[bool; 64],
+    arities: &[u32],
+    unique: bool,
+    checks: &mut [bool; 256],
+) -> Plain
+    ensures { λ r. ⌜ KeepsPlain (now (row .entry)) at owed (now (scope .entry)) (now (arities .entry)) unique (now (checks .entry)) (now (checks .exit)) r ⌝ }
+{
+    let mut a = at;
+    let mut left = owed;
+    while 0 < left {
+        if row.len() <= a {
+            return Plain::Broke(a);
+        }
+        if row.len() - a < left {
+            return Plain::Broke(a);
+        }
+        let w = row[a];
+        let t = tag(w);
+        if t == INTEGER {
+            a += 2;
+            left -= 1;
+            continue;
+        }
+        if between(ATOM, t, CALL) {
+            a += 1;
+            left = left - 1 + n(w) as usize;
+            continue;
+        }
+        if !keeps_rule(w, scope, arities, unique, checks) {
+            return Plain::Broke(a);
+        }
+        if t == LET {
+            return Plain::Opens(a, left);
+        }
+        if t == CLAUSE {
+            return Plain::Opens(a, left);
+        }
+        meet(w, checks);
+        a += 1;
+        left = left - 1 + children(w);
+    }
+    Plain::Past(a)
+}
+
 // Goes through so many terms outside patterns, from a position on, all in one scope.
 pub fn keep(
     row: &[u32],
     at: usize,
     owed: usize,
-    scope: [bool; 64],
+    scope: &[bool; 64],
     arities: &[u32],
     unique: bool,
     checks: &mut [bool; 256],
 ) -> Gone
-    ensures { λ r. ⌜ Keeps (now (row .entry)) at owed scope (now (arities .entry)) unique (now (checks .entry)) (now (checks .exit)) r ⌝ }
+    ensures { λ r. ⌜ Keeps (now (row .entry)) at owed (now (scope .entry)) (now (arities .entry)) unique (now (checks .entry)) (now (checks .exit)) r ⌝ }
 {
-    if owed == 0 {
-        return Gone::Past(at);
+    let plain = keep_plain(row, at, owed, scope, arities, unique, checks);
+    match plain {
+        Plain::Past(a) => Gone::Past(a),
+        Plain::Broke(p) => Gone::Broke(p),
+        Plain::Opens(opens, left) => {
+            let w = row[opens];
+            if tag(w) == LET {
+                let bound = keep(row, opens + 1, 1, scope, arities, unique, checks);
+                let Gone::Past(a) = bound else {
+                    return bound;
+                };
+                let inner = with(scope, k(w) as usize);
+                return keep_both(row, a, 1, left - 1, &inner, scope, arities, unique, checks);
+            }
+            let mut inner = *scope;
+            let pattern = bind(row, opens + 1, 1, &mut inner);
+            let Gone::Past(a) = pattern else {
+                return pattern;
+            };
+            keep_both(row, a, 2, left - 1, &inner, scope, arities, unique, checks)
+        }
     }
-    if row.len() <= at {
-        return Gone::Broke(at);
-    }
-    if row.len() - at < owed {
-        return Gone::Broke(at);
-    }
-    let w = row[at];
-    let t = tag(w);
-    if t == INTEGER {
-        return keep(row, at + 2, owed - 1, scope, arities, unique, checks);
-    }
-    if !keeps_rule(w, scope, arities, unique, checks) {
-        return Gone::Broke(at);
-    }
-    if t == LET {
-        let bound = keep(row, at + 1, 1, scope, arities, unique, checks);
-        let Gone::Past(a) = bound else {
-            return bound;
-        };
-        let inner = with(scope, k(w) as usize);
-        return keep_both(row, a, 1, owed - 1, inner, scope, arities, unique, checks);
-    }
-    if t == CLAUSE {
-        let mut inner = scope;
-        let pattern = bind(row, at + 1, 1, &mut inner);
-        let Gone::Past(a) = pattern else {
-            return pattern;
-        };
-        return keep_both(row, a, 2, owed - 1, inner, scope, arities, unique, checks);
-    }
-    meet(w, checks);
-    let more = owed - 1 + children(w);
-    keep(row, at + 1, more, scope, arities, unique, checks)
 }
 
 // Goes through so many terms in an inner scope, then through so many in the outer one.
@@ -192,13 +237,13 @@ pub fn keep_both(
     at: usize,
     first: usize,
     second: usize,
-    inner: [bool; 64],
-    outer: [bool; 64],
+    inner: &[bool; 64],
+    outer: &[bool; 64],
     arities: &[u32],
     unique: bool,
     checks: &mut [bool; 256],
 ) -> Gone
-    ensures { λ r. ⌜ KeepsBoth (now (row .entry)) at first second inner outer (now (arities .entry)) unique (now (checks .entry)) (now (checks .exit)) r ⌝ }
+    ensures { λ r. ⌜ KeepsBoth (now (row .entry)) at first second (now (inner .entry)) (now (outer .entry)) (now (arities .entry)) unique (now (checks .entry)) (now (checks .exit)) r ⌝ }
 {
     let one = keep(row, at, first, inner, arities, unique, checks);
     let Gone::Past(a) = one else {

@@ -19,7 +19,8 @@ pub fn check_control(row: &[u32], places: u32, arities: &[u32]) -> bool
         return false;
     }
     let mut checks = [false; 256];
-    let walk = keep(row, 0, 1, [false; 64], arities, false, &mut checks);
+    let scope = [false; 64];
+    let walk = keep(row, 0, 1, &scope, arities, false, &mut checks);
     let Gone::Past(_) = walk else {
         return false;
     };

@@ -77,7 +77,7 @@ fn keep_functions(row: &[u32], arities: &[u32]) -> Checked
     let mut at = 0;
     while at < row.len() {
         let scope = parameters(n(row[at]) as usize);
-        let walk = keep(row, at + 1, 1, scope, arities, true, &mut checks);
+        let walk = keep(row, at + 1, 1, &scope, arities, true, &mut checks);
         match walk {
             Gone::Broke(p) => return Checked::Bad(p),
             Gone::Past(a) => {

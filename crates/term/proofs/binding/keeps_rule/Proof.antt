@@ -46,8 +46,8 @@ returns-5 c = search check-new
 returns-6 : tie.Need-returns-6
 returns-6 c = search variable-out
 
-array-read-result : tie.Need-array-read-result
-array-read-result c = search needs
+element-copy-out-result-2 : tie.Need-element-copy-out-result-2
+element-copy-out-result-2 c = search needs
 
 returns-7 : tie.Need-returns-7
 returns-7 c = search variable-in
@@ -55,8 +55,8 @@ returns-7 c = search variable-in
 returns-8 : tie.Need-returns-8
 returns-8 c = search let-out
 
-array-read-result-2 : tie.Need-array-read-result-2
-array-read-result-2 c = search needs
+element-copy-out-result-3 : tie.Need-element-copy-out-result-3
+element-copy-out-result-3 c = search needs
 
 returns-9 : tie.Need-returns-9
 returns-9 c = search let-in
@@ -82,9 +82,9 @@ keeps-rule-spec =
     element-copy-out-result
     returns-5
     returns-6
-    array-read-result
+    element-copy-out-result-2
     returns-7
     returns-8
-    array-read-result-2
+    element-copy-out-result-3
     returns-9
     returns-10)

@@ -1,0 +1,145 @@
+-- `term::binding::keep_plain` meets its contract.
+use Prim.Native.Nat.{_-_}
+use lib.ListN.{length}
+use borrow.Author.Needs.{needs}
+use Rattle.term.specs.Walking.{Gets}
+use Rattle.term.proofs.PlainLaws.{gets-start, gets-integer, gets-plain, gets-next, plain-past, plain-end, plain-short, plain-broken, opens-let, opens-clause}
+use Rattle.term.proofs.binding.keep_plain.Statement.{statement}
+use Rattle.term.proofs.binding.keep_plain.Tie as tie
+
+abbrev Inv-loop : tie.InvT-loop
+Inv-loop row at owed scope arities unique checks₀ a₀ left₀ checks a left = Gets row at owed scope arities unique checks₀ a left checks
+
+abbrev μ-loop : tie.MeasureT-loop
+μ-loop row at owed scope arities unique checks₀ a₀ left₀ checks a left = length row - a
+
+loop-holds : tie.Need-loop-holds Inv-loop μ-loop
+loop-holds c = search gets-start
+
+returns : tie.Need-returns Inv-loop μ-loop
+returns c = search plain-end
+
+sub-if2 : tie.Need-sub-if2 Inv-loop μ-loop
+sub-if2 c = search needs
+
+returns-2 : tie.Need-returns-2 Inv-loop μ-loop
+returns-2 c = search plain-short
+
+mul-w : tie.Need-mul-w Inv-loop μ-loop
+mul-w c = search needs
+
+shared-slice-read-w : tie.Need-shared-slice-read-w Inv-loop μ-loop
+shared-slice-read-w c = search needs
+
+tag-requires : tie.Need-tag-requires Inv-loop μ-loop
+tag-requires c κs = search needs
+
+add-a : tie.Need-add-a Inv-loop μ-loop
+add-a c = search needs
+
+sub-left : tie.Need-sub-left Inv-loop μ-loop
+sub-left c = search needs
+
+loop-less : tie.Need-loop-less Inv-loop μ-loop
+loop-less c = search needs
+
+loop-again : tie.Need-loop-again Inv-loop μ-loop
+loop-again c = search gets-integer
+
+between-requires : tie.Need-between-requires Inv-loop μ-loop
+between-requires c κs = search needs
+
+add-a-2 : tie.Need-add-a-2 Inv-loop μ-loop
+add-a-2 c = search needs
+
+sub-left-2 : tie.Need-sub-left-2 Inv-loop μ-loop
+sub-left-2 c = search needs
+
+n-requires : tie.Need-n-requires Inv-loop μ-loop
+n-requires c κs = search needs
+
+cast-left : tie.Need-cast-left Inv-loop μ-loop
+cast-left c = search needs
+
+add-left : tie.Need-add-left Inv-loop μ-loop
+add-left c = search needs
+
+loop-less-2 : tie.Need-loop-less-2 Inv-loop μ-loop
+loop-less-2 c = search needs
+
+loop-again-2 : tie.Need-loop-again-2 Inv-loop μ-loop
+loop-again-2 c = search gets-plain
+
+keeps-rule-requires : tie.Need-keeps-rule-requires Inv-loop μ-loop
+keeps-rule-requires c κs = search needs
+
+returns-3 : tie.Need-returns-3 Inv-loop μ-loop
+returns-3 c = search plain-broken
+
+returns-4 : tie.Need-returns-4 Inv-loop μ-loop
+returns-4 c = opens-let _ _ _ _ _ _ _ _ _ _ (c .before .before .before .before .before .before .before .before .before .before .before .before .loop .inv) (search needs) (search needs) _ (c .before .before .before .before .before .before .before .tag .ensures) (c .before .before .before .before .before .before .if3 .left) _ (c .before .before .keeps-rule .ensures) (c .before .if5 .left) (c .if6 .taken)
+
+returns-5 : tie.Need-returns-5 Inv-loop μ-loop
+returns-5 c = opens-clause _ _ _ _ _ _ _ _ _ _ (c .before .before .before .before .before .before .before .before .before .before .before .before .before .loop .inv) (search needs) (search needs) _ (c .before .before .before .before .before .before .before .before .tag .ensures) (c .before .before .before .before .before .before .before .if3 .left) _ (c .before .before .before .keeps-rule .ensures) (c .before .before .if5 .left) (c .if7 .taken)
+
+meet-requires : tie.Need-meet-requires Inv-loop μ-loop
+meet-requires c κs = search needs
+
+add-a-3 : tie.Need-add-a-3 Inv-loop μ-loop
+add-a-3 c = search needs
+
+sub-left-3 : tie.Need-sub-left-3 Inv-loop μ-loop
+sub-left-3 c = search needs
+
+children-requires : tie.Need-children-requires Inv-loop μ-loop
+children-requires c κs = search needs
+
+add-left-2 : tie.Need-add-left-2 Inv-loop μ-loop
+add-left-2 c = search needs
+
+loop-less-3 : tie.Need-loop-less-3 Inv-loop μ-loop
+loop-less-3 c = search needs
+
+loop-again-3 : tie.Need-loop-again-3 Inv-loop μ-loop
+loop-again-3 c = search gets-next
+
+returns-6 : tie.Need-returns-6 Inv-loop μ-loop
+returns-6 c = search plain-past
+
+pub keep-plain-spec : {M : Type 1} → statement M
+keep-plain-spec =
+    tie.close
+    (tie.spec
+    Inv-loop
+    μ-loop
+    loop-holds
+    returns
+    sub-if2
+    returns-2
+    mul-w
+    shared-slice-read-w
+    tag-requires
+    add-a
+    sub-left
+    loop-less
+    loop-again
+    between-requires
+    add-a-2
+    sub-left-2
+    n-requires
+    cast-left
+    add-left
+    loop-less-2
+    loop-again-2
+    keeps-rule-requires
+    returns-3
+    returns-4
+    returns-5
+    meet-requires
+    add-a-3
+    sub-left-3
+    children-requires
+    add-left-2
+    loop-less-3
+    loop-again-3
+    returns-6)
