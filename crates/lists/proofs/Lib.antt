@@ -1,3 +1,4 @@
+-- Laws of lists, tests and tables.
 pub mod Members
 pub mod Tests
 pub mod Tables

@@ -1,9 +1,7 @@
 -- Laws of tables that are changed at one place.
 use Prim.Native.Nat.{ℕ}
-use mathlib.Core.Path.{_≡_, refl, sym, _∙_, ap, fun-ext}
-use mathlib.Core.Logic.{_≢_, _⊎_, inl, inr}
-use mathlib.Core.Bool.{true, false, cond}
-use lib.Dec.{eqb}
+use mathlib.Core.Path.{_≡_, sym, _∙_, ap, fun-ext}
+use mathlib.Core.Logic.{_≢_}
 use native.Mathlib.Decide.{ℕ-discrete}
 use Rattle.lists.specs.Tables.{put}
 use Rattle.lists.proofs.Tests.{eqb-of, eqb-apart, cond-true, cond-false}

@@ -1,3 +1,4 @@
+-- Lists, tests and tables that the other crates share.
 pub mod Lists
 pub mod Tables
 pub mod Fill

@@ -1,3 +1,4 @@
+-- A step keeps the control check, and brings no pid from nowhere.
 pub mod Sits
 pub mod TagLaws
 pub mod SitLaws

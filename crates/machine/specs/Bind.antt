@@ -1,7 +1,7 @@
 -- Binding. 01: "Binding puts the value in place of the variable." Assumes nothing: these are definitions.
-use Prim.Native.Nat.{ℕ, zero, suc}
-use mathlib.Core.Bool.{Bool, true, false}
-use mathlib.Core.Option.{Option, none, some}
+use Prim.Native.Nat.{ℕ, suc}
+use mathlib.Core.Bool.{true, false}
+use mathlib.Core.Option.{none, some}
 use lib.Dec.{eqb}
 use Rattle.term.specs.Words.{tagVariable}
 use Rattle.term.specs.Tree.{Term, Terms, int, node, end, _then_}

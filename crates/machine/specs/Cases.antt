@@ -1,12 +1,12 @@
 -- 01's cases on operators, computed; and one for each sentence of 'One process step' that could be read otherwise.
 use Prim.Native.Nat.{ℕ}
 use mathlib.Core.Path.{_≡_, refl}
-use mathlib.Core.Option.{Option, none, some}
+use mathlib.Core.Option.{none, some}
 use mathlib.Core.List.{List, [], _∷_}
 use lib.IntN.{ℤ, pos, negℤ}
-use Rattle.term.specs.Tree.{Term, int, node, end, _then_}
-use Rattle.machine.specs.Operator.{operate, unsigned, opAdd, opMultiply, opDiv, opRem, opLess}
-use Rattle.machine.specs.Work.{Work, finished, stuck, toSeq, toSend, toReceive, toSpawn, toSelf, toCheck, work}
+use Rattle.term.specs.Tree.{Term, int, node, end}
+use Rattle.machine.specs.Operator.{operate, unsigned, opMultiply, opDiv, opRem, opLess}
+use Rattle.machine.specs.Work.{finished, stuck, toSeq, toSend, toCheck, work}
 use Rattle.machine.specs.Opened.{opened}
 
 abbrev pub integer : ℤ → Term

@@ -1,6 +1,5 @@
 -- Clauses. 01: "the first clause whose pattern matches and whose guard gives atom 0". Assumes nothing: these are definitions.
-use Prim.Native.Nat.{ℕ}
-use mathlib.Core.Bool.{Bool, true, false}
+use mathlib.Core.Bool.{true, false}
 use mathlib.Core.Option.{Option, none, some}
 use Rattle.term.specs.Tree.{Term, Terms, int, node, end, _then_}
 use Rattle.machine.specs.Match.{Bindings, unbound, match}

@@ -14,7 +14,7 @@ use Rattle.term.specs.Tree.{Term, Terms, int, node, end, _then_}
 use Rattle.term.specs.Read.{termOf}
 use Rattle.term.specs.Shape.{shape}
 use Rattle.term.specs.Control.{goodControl, moduleArities}
-use Rattle.machine.specs.Work.{Work, toSeq, toSend, toReceive, toSpawn, toSelf, toCheck, work}
+use Rattle.machine.specs.Work.{toSeq, toSend, toReceive, toSpawn, toSelf, toCheck, work}
 
 -- the pid of q stands in a term
 unfoldable mutual

@@ -1,3 +1,4 @@
+-- One process step on terms.
 pub mod Value
 pub mod Operator
 pub mod Match

@@ -1,8 +1,8 @@
 -- What a control is about to do, and what it becomes, on rows of words. Assumes nothing: these are definitions.
 use Prim.Native.Nat.{ℕ}
-use mathlib.Core.Bool.{Bool, true, false, cond}
+use mathlib.Core.Bool.{true, false, cond}
 use mathlib.Core.Option.{Option, none, some}
-use mathlib.Core.List.{List, [], _∷_}
+use mathlib.Core.List.{List}
 use lib.Dec.{eqb}
 use Rattle.term.specs.Words.{tagPid, tagCall, tagApply, tagCase, tagLet, tagReceive, tagSpawn, tagSend, tagSelf, tagCheck}
 use Rattle.term.specs.Tree.{Term, Terms, int, node, end, _then_, words}

@@ -12,25 +12,27 @@ use Rattle.rules.specs.State.{Message, Taking, taking, asRec, Entry, State, his
 use Rattle.rules.specs.Flight.{alsoTaken, taken, leftOr, left}
 use Rattle.rules.specs.Sound.{Sound}
 use Rattle.rules.specs.Depends.{queueBefore, level}
+use Rattle.rules.specs.Standing.{Stands, Arrives, shownOr, shown, come, seen}
 use Rattle.rules.proofs.Messages.{Any, here, there, any-append, any-middle, any-none}
-use Rattle.rules.proofs.Arrival.{shownOr, shown, come, length-come, taken-nil}
+use Rattle.rules.proofs.Arrival.{length-come, taken-nil}
 use Rattle.rules.proofs.Event.{arrivals-at}
-use Rattle.rules.proofs.EventDepends.{Stands, Arrives, stands-entry, entry-here}
-use Rattle.rules.proofs.CutNumbers.{number-now, number-then, seen, seen-is}
+use Rattle.rules.proofs.EventDepends.{stands-entry, entry-here}
+use Rattle.rules.proofs.CutNumbers.{number-now, number-then, seen-is}
 use Rattle.store.specs.Layout.{kindNumber, kindRec, nameWord}
 use Rattle.store.specs.Image.{IsImage}
 use Rattle.store.proofs.SoundStates.{sizes-in, storable}
 use Rattle.reading.specs.Reads.{Holds, OfState, IsEntry, OfEntry, oldest}
 use Rattle.reading.proofs.Oldest.{parted, none-by-kind, oldest-none, oldest-all, entry-exists}
 use Rattle.reading.specs.declared.found.Found.the-variants.{Nowhere, At}
+use Rattle.rollback.specs.Bounds.{mostPlaces, mostEntries, mostQueued}
 use Rattle.rollback.specs.Listed.{OfRec, PlaceFrom, ArrivalIs, ComeCount, LeftAt}
 use Rattle.rollback.proofs.LinkReads.{stands-oldest, rec-of}
 
 -- ---- a queue is not too long
-queue-low : (s : State) (p : ℕ) → Sound s → length (s .queues p) ≤ 1024
+queue-low : (s : State) (p : ℕ) → Sound s → length (s .queues p) ≤ mostQueued
 queue-low s p sound =
     let sizes = sizes-in (s .sizes) (sound .sizes-pass) in
-    let most : s .sizes .places * s .sizes .entries ≤ 16 * 64 = mul-le-mul {n₁ = s .sizes .places} {m₁ = s .sizes .entries} {n₂ = 16} {m₂ = 64} (sizes .places-high) (sizes .entries-high) in
+    let most : s .sizes .places * s .sizes .entries ≤ mostPlaces * mostEntries = mul-le-mul {n₁ = s .sizes .places} {m₁ = s .sizes .entries} {n₂ = mostPlaces} {m₂ = mostEntries} (sizes .places-high) (sizes .entries-high) in
     omega (arith, storable s sound .queue p .fits, most)
 
 -- ---- recs, one entry after the other
@@ -83,10 +85,6 @@ module _ (store : List ℕ) (p : ℕ) where
 
   pub recs-done : (i j n : ℕ) → j ≤ i → i ≤ j → RecsAt j n → RecsAt i n
   recs-done i j n h g recs = let e : j ≡ i = omega (arith, h, g) in subst (λ k. RecsAt k n) e recs
-
-  pub all-entries-low : (i : ℕ) → OfState store (λ s. i ≡ length (historyAt s p)) → OfState store (λ s. i ≤ length (historyAt s p))
-  unfolding OfState
-  all-entries-low i ends s rest holds = omega (arith, ends s rest holds)
 
   -- how many came
   pub come-counted : (end n : ℕ) (queue : List ℕ) → OfState store (λ s. end ≡ length (historyAt s p)) → RecsAt end n → n ≤ end → OfState store (λ s. queue ≡ map nameWord (s .queues p)) → OfState store (ComeCount p (n + length queue))

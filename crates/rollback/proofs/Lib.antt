@@ -1,3 +1,4 @@
+-- What the numbers of a rollback say of the state.
 pub mod Lines
 pub mod LinkCut
 pub mod LinkUndo

@@ -10,6 +10,7 @@ use Rattle.rules.specs.Depends.{Line, entriesOf, deliveriesTo}
 use Rattle.rules.specs.Rollback.{cutTo}
 use Rattle.rules.proofs.Event.{line?}
 use Rattle.rules.proofs.Cut.{cut-at, cut-off}
+use Rattle.rollback.specs.Bounds.{lineCount}
 use Rattle.rollback.specs.Links.{lineNumber, cutIn, sumOf}
 
 -- each number is that of one line
@@ -41,9 +42,9 @@ cut-set l x v {n} e h = fun-ext λ y. elim (line? x y) [
 ]
 
 -- no line has a number past the list
-pub line-low : (l : List ℕ) (x : Line) {m : ℕ} → length l ≡ 32 → m < cutIn l x → lineNumber x < 32
+pub line-low : (l : List ℕ) (x : Line) {m : ℕ} → length l ≡ lineCount → m < cutIn l x → lineNumber x < lineCount
 unfolding cutIn
-line-low l x e h = elim (decLt (lineNumber x) 32) [ yes z ↦ z | no z ↦ absurd (omega (arith, h, List·getD-eq-default l 0 {n = lineNumber x} (omega (arith, e)))) ]
+line-low l x e h = elim (decLt (lineNumber x) lineCount) [ yes z ↦ z | no z ↦ absurd (omega (arith, h, List·getD-eq-default l 0 {n = lineNumber x} (omega (arith, e)))) ]
 
 -- ---- the sum falls with each number
 pub sum-set : (l : List ℕ) (i v : ℕ) → i < length l → sumOf (set l i v) + getD l i 0 ≡ sumOf l + v

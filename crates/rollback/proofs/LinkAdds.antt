@@ -67,7 +67,7 @@ module _ (l m : List ℕ) (n : ℕ) (same : (j : ℕ) → j < 4 * n → getD m j
   }
 
 -- another name for the same
-lists-as : {A B : Line → ℕ → Line → ℕ → Type 0} {l : List ℕ} {from to : ℕ} → ((x : Line) (a : ℕ) (y : Line) (b : ℕ) → A x a y b → B x a y b) → ((x : Line) (a : ℕ) (y : Line) (b : ℕ) → B x a y b → A x a y b)
+pub lists-as : {A B : Line → ℕ → Line → ℕ → Type 0} {l : List ℕ} {from to : ℕ} → ((x : Line) (a : ℕ) (y : Line) (b : ℕ) → A x a y b → B x a y b) → ((x : Line) (a : ℕ) (y : Line) (b : ℕ) → B x a y b → A x a y b)
     → Lists A l from to → Lists B l from to
 lists-as f g lists = record {
   each = λ k h i. let says = lists .each k h i in record { from = says .from; first = says .first; on = says .on; second = says .second; is = says .is; holds = f _ _ _ _ (says .holds) };

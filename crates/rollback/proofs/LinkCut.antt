@@ -10,12 +10,13 @@ use lib.ListN.{length, getD, set}
 use Rattle.rules.specs.State.{Message, taking, asRec, asSpawn, Entry, State}
 use Rattle.rules.specs.Sound.{Sound}
 use Rattle.rules.specs.Depends.{Line, entriesOf, deliveriesTo, level, happened}
-use Rattle.rules.specs.Rollback.{Cut, cutTo, event}
-use Rattle.rules.proofs.EventDepends.{Stands}
-use Rattle.rules.proofs.CutNumbers.{seen, Good}
+use Rattle.rules.specs.Standing.{Stands, seen}
+use Rattle.rules.specs.Rollback.{Cut, cutTo}
+use Rattle.rules.proofs.CutNumbers.{Good}
 use Rattle.rules.proofs.Removal.{in-level}
 use Rattle.rules.proofs.CutLoop.{Loop, loop-start, lower-rec, lower-since, lower-send, lower-child, lower-child-mail, loop-done}
 use Rattle.reading.specs.declared.found.Found.the-variants.{Nowhere, At}
+use Rattle.rollback.specs.Bounds.{lineCount}
 use Rattle.rollback.specs.Links.{cutIn, sumOf, Ties, of-rec, of-since, of-send, of-child, of-mail, LinkAt, Tied, Room}
 use Rattle.rollback.specs.Going.{Tears, FindsTorn, Settles}
 use Rattle.rollback.proofs.Lines.{at-line, cut-set, sum-less}
@@ -87,7 +88,7 @@ module _ (links : List ℕ) (count : ℕ) (from : List ℕ) where
   unfolding Lowering
   lowering-start s x i sound tied happens e = subst (Loop sound x i (in-level s x happens)) (sym e) (loop-start sound x i (in-level s x happens))
 
-  module _ (cut : List ℕ) (k : ℕ) (room : Room links count) (long : length cut ≡ 32) (found : FindsTorn links count cut (At k)) where
+  module _ (cut : List ℕ) (k : ℕ) (room : Room links count) (long : length cut ≡ lineCount) (found : FindsTorn links count cut (At k)) where
     unfolding-torn : (k < count) × Tears links cut k
     unfolding FindsTorn
     unfolding-torn = found
@@ -95,7 +96,7 @@ module _ (links : List ℕ) (count : ℕ) (from : List ℕ) where
     pub torn-below : k < count
     torn-below = unfolding-torn .0
 
-    pub torn-line : getD links (4 * k) 0 < 32
+    pub torn-line : getD links (4 * k) 0 < lineCount
     torn-line = room .each k torn-below .from-line
 
     pub lowering-on : Lowering links count from cut → Lowering links count from (set cut (getD links (4 * k) 0) (getD links (4 * k + 1) 0))

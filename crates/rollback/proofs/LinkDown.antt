@@ -1,5 +1,5 @@
 -- Undoing in a store: each turn leaves the image of a state with one event less, and where it ends that is the rollback's.
-use Prim.Native.Nat.{ℕ, suc, _+_, _-_, _/_, _%_, _<_}
+use Prim.Native.Nat.{ℕ, suc, _-_, _/_, _%_, _<_}
 use mathlib.Core.Path.{_≡_, refl, sym, _∙_, ap, subst, subst₂, fun-ext}
 use mathlib.Core.Logic.{_≢_}
 use mathlib.Core.Bool.{Bool, true, false}
@@ -34,6 +34,7 @@ use Rattle.calls.specs.declared.answers.Answer.the-variants.{Done, Held}
 use Rattle.reading.specs.Reads.{Holds, OfState}
 use Rattle.reading.specs.declared.found.Found.the-variants.{Nowhere, At}
 use Rattle.writing.specs.Writes.{Leads, Undoes, Unposts, CanUndo, CanTake}
+use Rattle.rollback.specs.Bounds.{lineCount}
 use Rattle.rollback.specs.Links.{lineNumber, cutIn}
 use Rattle.rollback.specs.Going.{Free, FindsFree, Ready, Reaches, Tells, tells-done, tells-held, Seeks, CanUndoLine, UndoesLine, OfWords, Leaves, TakesBack}
 use Rattle.rollback.proofs.Lines.{line-of, same-line, cut-set}
@@ -145,7 +146,7 @@ module _ (before links : List ℕ) (many : ℕ) (cut levels : List ℕ) where
           let one = image-laws .one-state (standing-one .state) s′ (is-image .rest) rest′ (sound-back (holds-one .sound) (standing-one .writing .run)) (holds′ .sound) (sym (standing-one .words) ∙ holds′ .words) in
           subst (CanUndoLine x) (one .0) (record { line = y; numbered = e; after = m; accepted = a })
 
-      pub undoing-on : (exit : List ℕ) → length lv ≡ 32 → Leads store exit (UndoesLine x) → Undoing before links many cut levels exit (set lv x (getD lv x 0 - 1))
+      pub undoing-on : (exit : List ℕ) → length lv ≡ lineCount → Leads store exit (UndoesLine x) → Undoing before links many cut levels exit (set lv x (getD lv x 0 - 1))
       unfolding Undoing Leads UndoesLine
       undoing-on exit long leads s rest holds r =
           let st = undoing s rest holds r in
@@ -166,12 +167,12 @@ module _ (before links : List ℕ) (many : ℕ) (cut levels : List ℕ) where
     unfolding FindsFree
     undoing-can x f = (undoing-image, can-undo x f)
 
-    pub undoing-next : (x : ℕ) (exit : List ℕ) → FindsFree links many cut lv (At x) → length lv ≡ 32 → Leads store exit (UndoesLine x) → Undoing before links many cut levels exit (set lv x (getD lv x 0 - 1))
+    pub undoing-next : (x : ℕ) (exit : List ℕ) → FindsFree links many cut lv (At x) → length lv ≡ lineCount → Leads store exit (UndoesLine x) → Undoing before links many cut levels exit (set lv x (getD lv x 0 - 1))
     unfolding FindsFree
     undoing-next x exit f long leads = undoing-on x f exit long leads
 
     -- no line above the cut can be undone: the cut is reached
-    pub undoing-done : length lv ≡ 32 → FindsFree links many cut lv Nowhere → OfState before (λ s. Reaches s (cutIn cut)) → OfWords before (λ s rest. Leaves s (cutIn cut) rest store)
+    pub undoing-done : length lv ≡ lineCount → FindsFree links many cut lv Nowhere → OfState before (λ s. Reaches s (cutIn cut)) → OfWords before (λ s rest. Leaves s (cutIn cut) rest store)
     unfolding OfWords OfState Undoing endOf
     undoing-done long nowhere reaches s rest holds =
         let r = ready s rest holds in

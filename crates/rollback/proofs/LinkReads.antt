@@ -12,13 +12,14 @@ use Rattle.rules.specs.State.{Message, Letter, letter, taking, Kind, seq, send,
 use Rattle.rules.specs.Flight.{sends, taken}
 use Rattle.rules.specs.Sound.{SpawnedBy, SentTo, Sound}
 use Rattle.rules.specs.Depends.{Line, entriesOf, deliveriesTo, level}
+use Rattle.rules.specs.Standing.{Stands, Arrives, seen}
 use Rattle.rules.proofs.Messages.{Any, Is, any-append, any-middle, Named, Once, once-of}
 use Rattle.rules.proofs.Histories.{suffix-sent}
 use Rattle.rules.proofs.SoundFacts.{mail}
 use Rattle.rules.proofs.Arrival.{once-come, any-come}
 use Rattle.rules.proofs.Event.{arrivals-at}
-use Rattle.rules.proofs.EventDepends.{Stands, Arrives, Like, stands-entry, stands-low, entry-stands, entry-here}
-use Rattle.rules.proofs.CutNumbers.{seen, seen-is}
+use Rattle.rules.proofs.EventDepends.{Like, stands-entry, stands-low, entry-stands, entry-here}
+use Rattle.rules.proofs.CutNumbers.{seen-is}
 use Rattle.store.specs.Layout.{kindNumber, numberIn, kindSend, kindRec, kindSpawn, nameBase, nameWord}
 use Rattle.store.specs.Image.{IsImage}
 use Rattle.store.proofs.SoundStates.{sizes-in, numbered}
@@ -26,6 +27,7 @@ use Rattle.reading.specs.Reads.{Holds, OfState, IsPlace, IsEntry, OfEntry, IsSe
 use Rattle.reading.proofs.Oldest.{send-by-kind, rec-by-kind, parted}
 use Rattle.reading.proofs.MailReads.{sends-low}
 use Rattle.reading.specs.declared.found.Found.the-variants.{Nowhere, At}
+use Rattle.rollback.specs.Bounds.{mostEntries}
 use Rattle.rollback.specs.Listed.{IsKind, OfRec, ArrivalIs, putLink, TiesAt, rec-at, since-at, send-at, child-at, mail-at, AimsAt, aim-at, Adds}
 use Rattle.rollback.proofs.LinkUndo.{stands-same, stands-after, seen-same, letter-target, send-mark, rec-mark, spawn-mark, mark}
 use Rattle.rollback.proofs.LinkAdds.{SameLink, Just, Two, adds-none, adds-one, adds-two}
@@ -178,7 +180,7 @@ module _ {s : State} (sound : Sound s) {p i : ℕ} {e : Entry} {g : List Entry} 
   unaimed v x a y b (aim-at {f = h} st₁ is₁ st₂ is₂) = v (number-mark (e .kind) .0 (sym (mark-of st₁) ∙ send-mark (h .kind) is₁))
 
 -- ---- names
-pub arrived-small : {s : State} → Sound s → {q j : ℕ} {n : Message} → Arrives s q j n → n .count < 65536
+pub arrived-small : {s : State} → Sound s → {q j : ℕ} {n : Message} → Arrives s q j n → n .count < nameBase
 arrived-small {s} sound {q} {n = n} r =
     let came = any-append (s .queues q) (any-come (historyAt s q) (s .queues q) (sound .prefixes q) .0 (subst (Any (Is n)) (sym (r .at) ∙ arrivals-at sound q) (any-middle (r .before) n (r .after) refl))) in
     let out : SentTo s q n = mail sound q (elim came [ inl x ↦ inl x | inr x ↦ inr x ]) in
@@ -195,7 +197,7 @@ stands-oldest {s} {p} {i} {e} st =
     let own : Stands s p i e (oldest i (historyAt s p)) = record { at = parted (historyAt s p) i (stands-entry st) .suffix; index = oldest-length i (historyAt s p) (omega (arith, low)) } in
     stands-after own st
 
-name-of : {p c : ℕ} {n : Message} → n .count < 65536 → c < 65536 → nameWord n ≡ p * nameBase + c → Named p c n
+name-of : {p c : ℕ} {n : Message} → n .count < nameBase → c < nameBase → nameWord n ≡ p * nameBase + c → Named p c n
 name-of h g e = record { sender = omega (arith, h, g, e); count = omega (arith, h, g, e) }
 
 name-back : {p c : ℕ} {n : Message} → Named p c n → nameWord n ≡ p * nameBase + c
@@ -256,7 +258,7 @@ module _ (store : List ℕ) (p i : ℕ) (there : OfState store (IsEntry p i)) wh
         (v, is ∙ ap (λ z. some (letter z v)) (sym (aimed s rest holds e target v (stands-entry st) is)))
 
     module _ (counted : OfState store (λ s. c ≡ sends (oldest i (historyAt s p)))) where
-      count-at : (s : State) (rest : List ℕ) → Holds store s rest → (e : Entry) (g : List Entry) → Stands s p i e g → (c ≡ sends g) × (c < 65536)
+      count-at : (s : State) (rest : List ℕ) → Holds store s rest → (e : Entry) (g : List Entry) → Stands s p i e g → (c ≡ sends g) × (c < nameBase)
       unfolding OfState
       count-at s rest holds e g st =
           let own = stands-oldest st in
@@ -298,7 +300,7 @@ module _ (store : List ℕ) (p i : ℕ) (there : OfState store (IsEntry p i)) wh
         | no h ↦ true-not-false (holds .sound .targets-in-pool p (sends g) t v (suffix-sent (st .at) is)) (holds .sound .pool-ends t (omega (arith, h)))
       ]
 
-pub sends-few : (store : List ℕ) (p i c : ℕ) → IsImage store → OfState store (λ s. c ≡ sends (oldest i (historyAt s p))) → c ≤ 64
+pub sends-few : (store : List ℕ) (p i c : ℕ) → IsImage store → OfState store (λ s. c ≡ sends (oldest i (historyAt s p))) → c ≤ mostEntries
 unfolding OfState
 sends-few store p i c is-image counted =
     let s = is-image .state in

@@ -17,6 +17,7 @@ use Rattle.rules.proofs.SearchNumbers.{Can, cuts-run}
 use Rattle.rules.proofs.SearchLoop.{Seeking, seek-start, seek-take, seek-done, seek-held}
 use Rattle.calls.specs.declared.answers.Answer.the-variants.{Done, Held}
 use Rattle.reading.specs.declared.found.Found.the-variants.{Nowhere, At}
+use Rattle.rollback.specs.Bounds.{lineCount}
 use Rattle.rollback.specs.Links.{lineNumber, cutIn, sumOf, Links}
 use Rattle.rollback.specs.Going.{Blocked, Free, FindsFree, Reached, Ready, Tells, tells-done, tells-held, Seeks}
 use Rattle.rollback.proofs.Lines.{line-of, at-line, cut-set, line-low, sum-set}
@@ -44,7 +45,7 @@ module _ {links : List ℕ} {many x : ℕ} {cut lv : List ℕ} (f : Free links m
   free-line linked t-sound under same = free-can linked t-sound under same y free-top (λ b. f .free (subst (λ n. Blocked links many n (getD lv x 0 - 1) lv) e b))
 
 -- no line is free: none above the cut can be undone
-pub none-free : {links : List ℕ} {many few : ℕ} (cut lv : List ℕ) {s : State} → Links s links few many → length lv ≡ 32 → FindsFree links many cut lv Nowhere
+pub none-free : {links : List ℕ} {many few : ℕ} (cut lv : List ℕ) {s : State} → Links s links few many → length lv ≡ lineCount → FindsFree links many cut lv Nowhere
     → (z : Line) → cutIn cut z < cutIn lv z → ¬ Can s (cutIn lv) z
 unfolding FindsFree
 none-free cut lv linked long none z h can =
@@ -63,7 +64,7 @@ module _ (links : List ℕ) (many : ℕ) (cut levels : List ℕ) where
   unfolding Sought
   sought-start s sound r = subst (λ j. Seeking s (cutIn cut) j 0) (sym (levels-same sound r)) (seek-start (cut-under sound r))
 
-  module _ (lv : List ℕ) (n : ℕ) (long : length lv ≡ 32) (sought : Sought links many cut levels lv n) where
+  module _ (lv : List ℕ) (n : ℕ) (long : length lv ≡ lineCount) (sought : Sought links many cut levels lv n) where
     pub sought-on : (x : ℕ) → FindsFree links many cut lv (At x) → Sought links many cut levels (set lv x (getD lv x 0 - 1)) (n + 1)
     unfolding Sought FindsFree
     sought-on x f s sound r =
@@ -84,10 +85,10 @@ module _ (links : List ℕ) (many : ℕ) (cut levels : List ℕ) where
     unfolding Sought Seeks Reached
     sought-done reached s sound r =
         let seeking = subst (λ k. Seeking s k (cutIn lv) n) (r .cut-is) (sought s sound r) in
-        let (t, e) = seek-done sound (r .line) (r .index) (r .happens) seeking (λ y. at y (sought s sound r) (decLt (lineNumber y) 32) ∙ ap (λ k. k y) (r .cut-is)) in
+        let (t, e) = seek-done sound (r .line) (r .index) (r .happens) seeking (λ y. at y (sought s sound r) (decLt (lineNumber y) lineCount) ∙ ap (λ k. k y) (r .cut-is)) in
         subst (λ b. Tells b (Done n)) (sym (ap (undoTo s) (r .cut-is) ∙ e)) (tells-done n t)
       where
-        at : {s : State} (y : Line) → Seeking s (cutIn cut) (cutIn lv) n → Dec (lineNumber y < 32) → cutIn lv y ≡ cutIn cut y
+        at : {s : State} (y : Line) → Seeking s (cutIn cut) (cutIn lv) n → Dec (lineNumber y < lineCount) → cutIn lv y ≡ cutIn cut y
         at y seeking (yes h) = omega (arith, seeking .above y, reached (lineNumber y) h, at-line lv y refl, at-line cut y refl)
         at y seeking (no h) = elim (decLt (cutIn cut y) (cutIn lv y)) [ yes g ↦ absurd (h (line-low lv y long g)) | no g ↦ omega (arith, seeking .above y, g) ]
 

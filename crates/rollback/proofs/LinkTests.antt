@@ -9,6 +9,7 @@ use lib.ListN.{getD}
 use Rattle.lists.specs.Decides.{Decides}
 use Rattle.lists.proofs.Decides.{yes-to, no-to, refuted}
 use Rattle.reading.specs.declared.found.Found.the-variants.{Nowhere, At}
+use Rattle.rollback.specs.Bounds.{lineCount}
 use Rattle.rollback.specs.Going.{Tears, FindsTorn, Blocks, Blocked, Free, FindsFree, Reached}
 
 -- ---- one more that fails
@@ -21,9 +22,6 @@ module _ (links cut : List ℕ) (k : ℕ) where
 
   pub tears-not-on : getD links (4 * k + 3) 0 < getD cut (getD links (4 * k + 2) 0) 0 → Decides (Tears links cut k) false
   tears-not-on h = no-to λ t. omega (arith, h, t .goes)
-
-  pub tears-yes : getD links (4 * k + 1) 0 < getD cut (getD links (4 * k) 0) 0 → getD cut (getD links (4 * k + 2) 0) 0 ≤ getD links (4 * k + 3) 0 → Decides (Tears links cut k) true
-  tears-yes h g = yes-to (record { stays = h; goes = g })
 
   module _ (count : ℕ) where
     pub torn-here : {r : Bool} → k < count → Decides (Tears links cut k) r → r ≡ true → FindsTorn links count cut (At k)
@@ -44,9 +42,6 @@ module _ (links : List ℕ) (x i : ℕ) (level : List ℕ) (k : ℕ) where
   pub blocks-not : getD level (getD links (4 * k) 0) 0 ≤ getD links (4 * k + 1) 0 → Decides (Blocks links x i level k) false
   blocks-not h = no-to λ b. omega (arith, h, b .stays)
 
-  pub blocks-yes : getD links (4 * k + 2) 0 ≡ x → getD links (4 * k + 3) 0 ≡ i → getD links (4 * k + 1) 0 < getD level (getD links (4 * k) 0) 0 → Decides (Blocks links x i level k) true
-  blocks-yes e f h = yes-to (record { line = e; index = f; stays = h })
-
   module _ (count : ℕ) where
     pub blocked-here : {r : Bool} → k < count → Decides (Blocks links x i level k) r → r ≡ true → Decides (Blocked links count x i level) true
     blocked-here h d e = yes-to (record { place = k; below = h; blocks = d .sound e })
@@ -61,25 +56,25 @@ module _ (links : List ℕ) (count : ℕ) (cut level : List ℕ) (x : ℕ) where
   pub free-not-blocked : {r : Bool} → Decides (Blocked links count x (getD level x 0 - 1) level) r → r ≡ true → Decides (Free links count cut level x) false
   free-not-blocked d e = no-to λ f. f .free (d .sound e)
 
-  pub free-yes : {r : Bool} → x < 32 → getD cut x 0 < getD level x 0 → Decides (Blocked links count x (getD level x 0 - 1) level) r → r ≡ false → Decides (Free links count cut level x) true
+  pub free-yes : {r : Bool} → x < lineCount → getD cut x 0 < getD level x 0 → Decides (Blocked links count x (getD level x 0 - 1) level) r → r ≡ false → Decides (Free links count cut level x) true
   free-yes l h d e = yes-to (record { line = l; above = h; free = refuted d e })
 
   pub free-here : {r : Bool} → Decides (Free links count cut level x) r → r ≡ true → FindsFree links count cut level (At x)
   unfolding FindsFree
   free-here d e = d .sound e
 
-  pub free-nowhere : 32 ≤ x → ((j : ℕ) → j < x → ¬ Free links count cut level j) → FindsFree links count cut level Nowhere
+  pub free-nowhere : lineCount ≤ x → ((j : ℕ) → j < x → ¬ Free links count cut level j) → FindsFree links count cut level Nowhere
   unfolding FindsFree
   free-nowhere h f = λ j g. f j (omega (arith, h, g))
 
 module _ (cut level : List ℕ) (x : ℕ) where
-  pub reached-not : x < 32 → getD cut x 0 < getD level x 0 → Reached cut level false
+  pub reached-not : x < lineCount → getD cut x 0 < getD level x 0 → Reached cut level false
   unfolding Reached
   reached-not h g = (x, h, g)
 
   pub reached-on : ((j : ℕ) → j < x → getD level j 0 ≤ getD cut j 0) → getD level x 0 ≤ getD cut x 0 → (j : ℕ) → j < x + 1 → getD level j 0 ≤ getD cut j 0
   reached-on before h j g = elim (ℕ-discrete j x) [ yes e ↦ subst (λ z. getD level z 0 ≤ getD cut z 0) (sym e) h | no n ↦ before j (omega arith) ]
 
-  pub reached-yes : 32 ≤ x → ((j : ℕ) → j < x → getD level j 0 ≤ getD cut j 0) → Reached cut level true
+  pub reached-yes : lineCount ≤ x → ((j : ℕ) → j < x → getD level j 0 ≤ getD cut j 0) → Reached cut level true
   unfolding Reached
   reached-yes h f = λ j g. f j (omega (arith, h, g))

@@ -1,7 +1,7 @@
 -- The undo of a line's newest event, by links: it is accepted where no event that stays is linked to it, and nowhere else.
 use Prim.Native.Nat.{ℕ, suc, _≤_, _<_}
 use mathlib.Core.Path.{_≡_, refl, sym, _∙_, ap, subst, subst₂}
-use mathlib.Core.Option.{Option, none, some}
+use mathlib.Core.Option.{Option, some}
 use mathlib.Core.List.{List}
 use native.Mathlib.Decide.{decLt}
 use native.Mathlib.Omega.{arith}
@@ -11,12 +11,13 @@ use Rattle.rules.specs.Flight.{sends}
 use Rattle.rules.specs.Rules.{Alone, seq-alone, self-alone, check-alone}
 use Rattle.rules.specs.Sound.{Sound}
 use Rattle.rules.specs.Depends.{Line, entriesOf, deliveriesTo, level}
+use Rattle.rules.specs.Standing.{Stands, Arrives, seen}
 use Rattle.rules.specs.Rollback.{Cut}
 use Rattle.rules.proofs.Views.{alone-send, alone-rec, alone-spawn}
 use Rattle.rules.proofs.Messages.{Named}
 use Rattle.rules.proofs.Event.{Under, low}
-use Rattle.rules.proofs.EventDepends.{Stands, Arrives, stands-entry, stands-older, entry-here}
-use Rattle.rules.proofs.CutNumbers.{seen, seen-low}
+use Rattle.rules.proofs.EventDepends.{stands-entry, stands-older, entry-here}
+use Rattle.rules.proofs.CutNumbers.{seen-low}
 use Rattle.rules.proofs.SearchNumbers.{Can, can-alone, can-send, can-rec, can-spawn, can-undeliver, stands-cut}
 use Rattle.rollback.specs.Links.{lineNumber, cutIn, Ties, of-rec, of-since, of-send, of-child, of-mail, Aims, of-aim, Linked, Says, Links}
 use Rattle.rollback.specs.Going.{Blocks, Blocked}

@@ -8,33 +8,37 @@ use lib.ListN.{length, getD, set, length-set, replicate, length-replicate, getD-
 use lib.Seq.{getD-set-same, getD-set-other}
 use Rattle.rules.specs.State.{State, historyAt}
 use Rattle.rules.specs.Depends.{Line, entriesOf, deliveriesTo, level}
-use Rattle.rules.proofs.EventDepends.{Stands, stands-low}
+use Rattle.rules.specs.Standing.{Stands}
+use Rattle.rules.proofs.EventDepends.{stands-low}
 use Rattle.rules.proofs.Cut.{placeOf, place-below}
 use Rattle.store.specs.Image.{IsImage}
 use Rattle.store.proofs.SoundStates.{sizes-in}
 use Rattle.reading.specs.Reads.{Holds, OfState, IsPlace, IsEntry}
 use Rattle.reading.proofs.Slotted.{entry-place}
-use Rattle.rollback.specs.Links.{lineNumber, cutIn, sumOf, Levels, Ties, of-rec, of-since, of-send, of-child, of-mail, Aims, of-aim, Tied, Links}
-use Rattle.rollback.specs.Listed.{ComeCount, TiesAt, rec-at, since-at, send-at, child-at, mail-at, AimsAt, aim-at, AtPlace, BelowPlace, Adds}
-use Rattle.rollback.proofs.LinkAdds.{link-kept, says-kept}
+use Rattle.rollback.specs.Bounds.{mostPlaces, mostEntries, lineCount, linksEach, mostCome}
+use Rattle.rollback.specs.declared.collecting.Sort.{Sort}
+use Rattle.rollback.specs.declared.collecting.Sort.the-variants as Sort
+use Rattle.rollback.specs.Links.{lineNumber, cutIn, sumOf, Levels, Ties, of-rec, of-since, of-send, of-child, of-mail, Aims, of-aim, Links}
+use Rattle.rollback.specs.Listed.{ComeCount, TiesAt, rec-at, since-at, send-at, child-at, mail-at, AimsAt, aim-at, OfSort, AtPlace, BelowPlace, AtAll, Adds}
+use Rattle.rollback.proofs.LinkAdds.{lists-kept, lists-as, adds-most}
 
 module _ (store : List ℕ) (is-image : IsImage store) where
   abbrev one : Holds store (is-image .state) (is-image .rest)
   one = record { sound = is-image .sound; words = is-image .words }
 
-  pub place-low : (p : ℕ) → OfState store (IsPlace p) → p < 16
+  pub place-low : (p : ℕ) → OfState store (IsPlace p) → p < mostPlaces
   unfolding OfState
   place-low p is-place = omega (arith, is-place (is-image .state) (is-image .rest) one, sizes-in (is-image .state .sizes) (is-image .sound .sizes-pass) .places-high)
 
-  pub end-low : (p end : ℕ) → OfState store (λ s. end ≡ length (historyAt s p)) → end ≤ 64
+  pub end-low : (p end : ℕ) → OfState store (λ s. end ≡ length (historyAt s p)) → end ≤ mostEntries
   unfolding OfState
   end-low p end ends = omega (arith, ends (is-image .state) (is-image .rest) one, is-image .sound .history-fits p, sizes-in (is-image .state .sizes) (is-image .sound .sizes-pass) .entries-high)
 
-  pub places-low : (end : ℕ) → OfState store (λ s. end ≡ s .sizes .places) → end ≤ 16
+  pub places-low : (end : ℕ) → OfState store (λ s. end ≡ s .sizes .places) → end ≤ mostPlaces
   unfolding OfState
   places-low end ends = omega (arith, ends (is-image .state) (is-image .rest) one, sizes-in (is-image .state .sizes) (is-image .sound .sizes-pass) .places-high)
 
-  pub entry-low : (p i : ℕ) → OfState store (IsEntry p i) → (p < 16) × (i < 64)
+  pub entry-low : (p i : ℕ) → OfState store (IsEntry p i) → (p < mostPlaces) × (i < mostEntries)
   unfolding OfState
   entry-low p i there-is =
       let s = is-image .state in
@@ -42,7 +46,7 @@ module _ (store : List ℕ) (is-image : IsImage store) where
       let sizes = sizes-in (s .sizes) (is-image .sound .sizes-pass) in
       (omega (arith, entry-place s (is-image .sound) p i h, sizes .places-high), omega (arith, h, is-image .sound .history-fits p, sizes .entries-high))
 
-  pub come-low : (p n : ℕ) → OfState store (ComeCount p n) → n ≤ 1088
+  pub come-low : (p n : ℕ) → OfState store (ComeCount p n) → n ≤ mostCome
   unfolding OfState
   come-low p n count = count (is-image .state) (is-image .rest) one .few
 
@@ -60,7 +64,7 @@ module _ (store : List ℕ) where
   entry-is-place p i there-is s rest holds = entry-place s (holds .sound) p i (there-is s rest holds)
 
 -- ---- ties and aims have their entries
-pub ties-inside : (p : ℕ) (s : State) (x : Line) (a : ℕ) (y : Line) (b j : ℕ) → TiesAt p j s x a y b → j < length (historyAt s p)
+ties-inside : (p : ℕ) (s : State) (x : Line) (a : ℕ) (y : Line) (b j : ℕ) → TiesAt p j s x a y b → j < length (historyAt s p)
 unfolding level
 ties-inside p s x a y b j (rec-at st is e) = stands-low st
 ties-inside p s x a y b j (since-at st is) = stands-low st
@@ -68,7 +72,7 @@ ties-inside p s x a y b j (send-at r st is u v) = stands-low st
 ties-inside p s x a y b j (child-at st is) = stands-low st
 ties-inside p s x a y b j (mail-at st is) = stands-low st
 
-pub aims-inside : (p : ℕ) (s : State) (x : Line) (a : ℕ) (y : Line) (b j : ℕ) → AimsAt p j s x a y b → j < length (historyAt s p)
+aims-inside : (p : ℕ) (s : State) (x : Line) (a : ℕ) (y : Line) (b j : ℕ) → AimsAt p j s x a y b → j < length (historyAt s p)
 unfolding level
 aims-inside p s x a y b j (aim-at st is st′ is′) = stands-low st
 
@@ -86,66 +90,78 @@ ties-to (of-send {i = i} {n = n} r st is c) = (n .sender, i, send-at r st is ref
 ties-to (of-child {p} {i = i} st is) = (p, i, child-at st is)
 ties-to (of-mail {p} {i = i} st is) = (p, i, mail-at st is)
 
-module _ (store : List ℕ) (end : ℕ) (ends : OfState store (λ s. end ≡ s .sizes .places)) where
-  pub ties-whole : (l links : List ℕ) (n p d : ℕ) → end ≤ p → Adds store (BelowPlace TiesAt p) l links 0 n d → OfState store (λ s. Tied s links n)
-  unfolding OfState BelowPlace AtPlace
-  ties-whole l links n p d h adds s rest holds =
-      let lists = adds .lists s rest holds in
-      record {
-        each = λ k g. let says = lists .each k (omega arith) g in record { from = says .from; first = says .first; on = says .on; second = says .second; is = says .is; holds = (let (q, u, (i, t)) = says .holds in ties-from t) };
-        all = λ x a y b t.
-            let (q, i, o) = ties-to t in
-            let low = entry-place s (holds .sound) q i (ties-inside q s x a y b i o) in
-            let z = lists .all x a y b (q, omega (arith, low, ends s rest holds, h), (i, o)) in
-            record { place = z .place; below = z .below; is = z .is };
-      }
+aims-from : {p i : ℕ} {s : State} {x y : Line} {a b : ℕ} → AimsAt p i s x a y b → Aims s x a y b
+aims-from (aim-at st is st′ is′) = of-aim st is st′ is′
 
-  pub aims-whole : (l links : List ℕ) (few many p d : ℕ) → end ≤ p → OfState store (λ s. Tied s l few) → 4 * many ≤ length links → Adds store (BelowPlace AimsAt p) l links few many d → OfState store (λ s. Links s links few many)
-  unfolding OfState BelowPlace AtPlace
-  aims-whole l links few many p d h tied long adds s rest holds =
-      let lists = adds .lists s rest holds in
-      let before = tied s rest holds in
+aims-to : {s : State} {x y : Line} {a b : ℕ} → Aims s x a y b → (p : ℕ) × (i : ℕ) × AimsAt p i s x a y b
+aims-to (of-aim {u} {j} st is st′ is′) = (u, j, aim-at st is st′ is′)
+
+pub sort-inside : (sort : Sort) (p : ℕ) (s : State) (x : Line) (a : ℕ) (y : Line) (b j : ℕ) → OfSort sort p j s x a y b → j < length (historyAt s p)
+unfolding OfSort
+sort-inside Sort.Ties = ties-inside
+sort-inside Sort.Aims = aims-inside
+
+-- the sort of an entry's links is known
+module _ {store l r : List ℕ} {p i from to : ℕ} (sort : Sort) where
+  pub sort-ties : sort ≡ Sort.Ties → Adds store (TiesAt p i) l r from to 2 → Adds store (OfSort sort p i) l r from to linksEach
+  unfolding OfSort
+  sort-ties e u = subst (λ (z : Sort). Adds store (OfSort z p i) l r from to linksEach) (sym e) u
+
+  pub sort-aims : sort ≡ Sort.Aims → Adds store (AimsAt p i) l r from to 1 → Adds store (OfSort sort p i) l r from to linksEach
+  unfolding OfSort
+  sort-aims e u = subst (λ (z : Sort). Adds store (OfSort z p i) l r from to linksEach) (sym e) (adds-most (omega arith) u)
+
+module _ (store : List ℕ) where
+  -- the links of all places that there are are all links
+  pub place-all : (sort : Sort) (l r : List ℕ) (from to p end d : ℕ) → OfState store (λ s. end ≡ s .sizes .places) → end ≤ p → Adds store (BelowPlace (OfSort sort) p) l r from to d → Adds store (AtAll (OfSort sort)) l r from to d
+  unfolding OfState BelowPlace AtPlace AtAll
+  place-all sort l r from to p end d ends h u = record {
+    long = u .long;
+    same = u .same;
+    low = u .low;
+    high = u .high;
+    lists = λ s rest holds. lists-as (λ x a y b (q, g, o). (q, o))
+        (λ x a y b (q, (j, o)). (q, (let low = entry-place s (holds .sound) q j (sort-inside sort q s x a y b j o) in omega (arith, low, ends s rest holds, h)), (j, o))) (u .lists s rest holds);
+  }
+
+  -- both sorts, one behind the other
+  pub links-whole : (l m links : List ℕ) (few many d e : ℕ) → Adds store (AtAll (OfSort Sort.Ties)) l m 0 few d → Adds store (AtAll (OfSort Sort.Aims)) m links few many e → 4 * many ≤ length links
+      → OfState store (λ s. Links s links few many)
+  unfolding OfState OfSort AtAll AtPlace
+  links-whole l m links few many d e ties aims long s rest holds =
+      let first = lists-kept m links few (aims .same) (ties .lists s rest holds) in
+      let then′ = aims .lists s rest holds in
       record {
         long = long;
-        fewer = adds .low;
+        fewer = aims .low;
         tied = record {
-          each = λ k g. says-kept l links few (adds .same) g (before .each k g);
-          all = λ x a y b t. let z = before .all x a y b t in record { place = z .place; below = z .below; is = link-kept l links few (adds .same) (z .below) (z .is) };
+          each = λ k g. let says = first .each k (omega arith) g in record { from = says .from; first = says .first; on = says .on; second = says .second; is = says .is; holds = (let (q, (i, t)) = says .holds in ties-from t) };
+          all = λ x a y b t. let (q, i, o) = ties-to t in let z = first .all x a y b (q, (i, o)) in record { place = z .place; below = z .below; is = z .is };
         };
-        each = λ k g i. let says = lists .each k g i in record { from = says .from; first = says .first; on = says .on; second = says .second; is = says .is; holds = (let (q, u, (j, t)) = says .holds in aims-from t) };
-        all = λ x a y b t.
-            let (q, i, o) = aims-to t in
-            let low = entry-place s (holds .sound) q i (aims-inside q s x a y b i o) in
-            let z = lists .all x a y b (q, omega (arith, low, ends s rest holds, h), (i, o)) in
-            record { place = z .place; below = z .below; is = z .is };
+        each = λ k g i. let says = then′ .each k g i in record { from = says .from; first = says .first; on = says .on; second = says .second; is = says .is; holds = (let (q, (j, t)) = says .holds in aims-from t) };
+        all = λ x a y b t. let (q, i, o) = aims-to t in let z = then′ .all x a y b (q, (i, o)) in record { place = z .place; below = z .below; is = z .is };
       }
-    where
-      aims-from : {p i : ℕ} {s : State} {x y : Line} {a b : ℕ} → AimsAt p i s x a y b → Aims s x a y b
-      aims-from (aim-at st is st′ is′) = of-aim st is st′ is′
-
-      aims-to : {s : State} {x y : Line} {a b : ℕ} → Aims s x a y b → (p : ℕ) × (i : ℕ) × AimsAt p i s x a y b
-      aims-to (of-aim {u} {j} st is st′ is′) = (u, j, aim-at st is st′ is′)
 
 -- ---- levels
-sum-most : (l : List ℕ) → ((j : ℕ) → getD l j 0 ≤ 2048) → sumOf l ≤ length l * 2048
+sum-most : (l : List ℕ) → ((j : ℕ) → getD l j 0 ≤ mostCome) → sumOf l ≤ length l * mostCome
 sum-most [] f = omega arith
 sum-most (n ∷ l) f = omega (arith, f 0, sum-most l (λ j. f (suc j)))
 
 -- the lines of the first p places are filled in
 pub record Filled (store : List ℕ) (p : ℕ) (l : List ℕ) : Type 0 where
-  pub long : length l ≡ 32
-  pub small : (j : ℕ) → getD l j 0 ≤ 2048
+  pub long : length l ≡ lineCount
+  pub small : (j : ℕ) → getD l j 0 ≤ mostCome
   pub blank : (x : Line) → p ≤ placeOf x → cutIn l x ≡ 0
   pub are : OfState store (λ s. (x : Line) → placeOf x < p → cutIn l x ≡ level s x)
 
 abbrev pub blanks : List ℕ
-blanks = replicate 32 0
+blanks = replicate lineCount 0
 
-blanks-long : length blanks ≡ 32
-blanks-long = length-replicate {A = ℕ} 32 0
+blanks-long : length blanks ≡ lineCount
+blanks-long = length-replicate {A = ℕ} lineCount 0
 
 zeros : (j : ℕ) → getD blanks j 0 ≡ 0
-zeros j = elim (decLt j 32) [ yes h ↦ getD-replicate {A = ℕ} 32 j 0 0 h | no h ↦ List·getD-eq-default blanks 0 {n = j} (omega (arith, h, blanks-long)) ]
+zeros j = elim (decLt j lineCount) [ yes h ↦ getD-replicate {A = ℕ} lineCount j 0 0 h | no h ↦ List·getD-eq-default blanks 0 {n = j} (omega (arith, h, blanks-long)) ]
 
 module _ (store : List ℕ) where
   pub filled-start : Filled store 0 blanks
@@ -157,7 +173,7 @@ module _ (store : List ℕ) where
     are = λ s rest holds x h. absurd (omega (arith, h));
   }
 
-  module _ (p n m : ℕ) (l : List ℕ) (filled : Filled store p l) (low : p < 16) (n-low : n ≤ 64) (m-low : m ≤ 1088) (count : OfState store (λ s. n ≡ length (historyAt s p))) (come : OfState store (ComeCount p m)) where
+  module _ (p n m : ℕ) (l : List ℕ) (filled : Filled store p l) (low : p < mostPlaces) (n-low : n ≤ mostEntries) (m-low : m ≤ mostCome) (count : OfState store (λ s. n ≡ length (historyAt s p))) (come : OfState store (ComeCount p m)) where
     at-entries : getD (set (set l (2 * p) n) (2 * p + 1) m) (2 * p) 0 ≡ n
     at-entries = getD-set-other (set l (2 * p) n) (2 * p + 1) (2 * p) m 0 (λ e. omega (arith, e)) ∙ getD-set-same l (2 * p) n 0 (omega (arith, low, filled .long))
 
@@ -197,7 +213,7 @@ module _ (store : List ℕ) where
   unfolding OfState
   filled-done p end l ends h filled s rest holds = record {
     long = filled .long;
-    most = omega (arith, sum-most l (filled .small), ap (λ n. n * 2048) (filled .long));
+    most = omega (arith, sum-most l (filled .small), ap (λ n. n * mostCome) (filled .long));
     are = λ x. elim (decLt (placeOf x) p) [
       | yes g ↦ filled .are s rest holds x g
       | no g ↦ filled .blank x (omega (arith, g)) ∙ sym (none-there x (elim (decLt 0 (level s x)) [ yes z ↦ absurd (let low = place-below (holds .sound) x z in omega (arith, low, g, h, ends s rest holds)) | no z ↦ omega (arith, z) ]))

@@ -1,5 +1,5 @@
 -- Rollback as a call: the checkpoint, the event's numbers, and the four answers.
-use Prim.Native.Nat.{ℕ, suc, _+_, _*_, _≤_, _<_}
+use Prim.Native.Nat.{ℕ, suc, _*_, _≤_, _<_}
 use mathlib.Core.Path.{_≡_, refl, sym, _∙_, ap, subst, fun-ext}
 use mathlib.Core.Bool.{Bool, true, false}
 use mathlib.Core.Option.{none, some}
@@ -14,13 +14,14 @@ use Rattle.rules.specs.State.{Kind, seq, send, rec, spawn, self, check, asSpawn
 use Rattle.rules.specs.Sound.{Sound}
 use Rattle.rules.specs.Replies.{ofRollback, perform}
 use Rattle.rules.specs.Depends.{Line, entriesOf, deliveriesTo, level}
+use Rattle.rules.specs.Standing.{Suffix, whole, Stands}
 use Rattle.rules.specs.Rollback.{isCheck, newestCheck, cutTo, event, cutBefore, RolledBack, refused, undoTo, endOf, rollback}
-use Rattle.rules.proofs.Histories.{Suffix, whole, suffix-length, suffix-tail, suffix-entry}
+use Rattle.rules.proofs.Histories.{suffix-length, suffix-tail, suffix-entry}
 use Rattle.rules.proofs.SoundFacts.{child-lives}
-use Rattle.rules.proofs.EventDepends.{Stands, stands-low, arrives-low}
+use Rattle.rules.proofs.EventDepends.{stands-low, arrives-low}
 use Rattle.rules.proofs.Removal.{in-level, level-in}
 use Rattle.rules.proofs.Cut.{placeOf, place-below}
-use Rattle.rules.proofs.Rollback.{newest-low, rollback-away, rollback-without, rollback-at}
+use Rattle.rules.proofs.Rollback.{newest-true, newest-false, newest-low, rollback-away, rollback-without, rollback-at}
 use Rattle.store.specs.Layout.{kindNumber, numberIn, kindCheck, image}
 use Rattle.store.specs.Image.{IsImage}
 use Rattle.store.proofs.SoundStates.{sizes-in}
@@ -30,42 +31,43 @@ use Rattle.calls.specs.declared.answers.Answer.{Answer}
 use Rattle.calls.specs.declared.answers.Answer.the-variants.{NoProcess, NoCheckpoint, NotAState}
 use Rattle.reading.specs.Reads.{Holds, OfState, IsPlace, IsEntry, OfEntry}
 use Rattle.reading.specs.declared.found.Found.the-variants.{Nowhere, At}
+use Rattle.rollback.specs.Bounds.{mostPlaces, lineCount, mostEvents}
 use Rattle.rollback.specs.Links.{lineNumber, cutIn, sumOf, Levels, Ties, of-rec, of-since, of-send, of-child, of-mail, Aims, of-aim, Says, Links, LinkFits, Room}
 use Rattle.rollback.specs.Going.{Settles, Ready, Tells, tells-done, tells-held, OfWords, TakesBack, Happens, EventBack, FindsCheck}
 use Rattle.rollback.proofs.Lines.{same-line, cut-set}
 
--- ---- the lines of links have numbers below 32
+-- ---- the lines of links are lines of places
 module _ {s : State} (sound : Sound s) where
-  few-places : s .sizes .places ≤ 16
+  few-places : s .sizes .places ≤ mostPlaces
   few-places = sizes-in (s .sizes) (sound .sizes-pass) .places-high
 
-  event-low : (x : Line) {i : ℕ} → i < level s x → lineNumber x < 32
+  event-low : (x : Line) {i : ℕ} → i < level s x → lineNumber x < lineCount
   event-low x h = at x (place-below sound x h)
     where
-      at : (x : Line) → placeOf x < s .sizes .places → lineNumber x < 32
+      at : (x : Line) → placeOf x < s .sizes .places → lineNumber x < lineCount
       at (entriesOf p) h = omega (arith, h, few-places)
       at (deliveriesTo q) h = omega (arith, h, few-places)
 
-  entry-low : {p i : ℕ} {e : Entry} {g : List Entry} → Stands s p i e g → 2 * p < 32
+  entry-low : {p i : ℕ} {e : Entry} {g : List Entry} → Stands s p i e g → 2 * p < lineCount
   entry-low {p} st = event-low (entriesOf p) (stands-low st)
 
-  child-low : {p q i : ℕ} {e : Entry} {g : List Entry} → Stands s p i e g → asSpawn (e .kind) ≡ some q → 2 * q < 32
+  child-low : {p q i : ℕ} {e : Entry} {g : List Entry} → Stands s p i e g → asSpawn (e .kind) ≡ some q → 2 * q < lineCount
   child-low {p} {q} st is = elim (decLt q (s .sizes .places)) [
     | yes h ↦ omega (arith, h, few-places)
     | no h ↦ true-not-false (child-lives sound p (st .at) is) (sound .pool-ends q (omega (arith, h)))
   ]
 
-  ties-low : {x y : Line} {a b : ℕ} → Ties s x a y b → (lineNumber x < 32) × (lineNumber y < 32)
+  ties-low : {x y : Line} {a b : ℕ} → Ties s x a y b → (lineNumber x < lineCount) × (lineNumber y < lineCount)
   ties-low (of-rec st is e) = (entry-low st, (let h = entry-low st in omega (arith, h)))
   ties-low (of-since st is) = ((let h = entry-low st in omega (arith, h)), entry-low st)
   ties-low (of-send {q} r st is c) = (event-low (deliveriesTo q) (arrives-low r), entry-low st)
   ties-low (of-child st is) = (child-low st is, entry-low st)
   ties-low (of-mail st is) = ((let h = child-low st is in omega (arith, h)), entry-low st)
 
-  aims-low : {x y : Line} {a b : ℕ} → Aims s x a y b → (lineNumber x < 32) × (lineNumber y < 32)
+  aims-low : {x y : Line} {a b : ℕ} → Aims s x a y b → (lineNumber x < lineCount) × (lineNumber y < lineCount)
   aims-low (of-aim st′ is′ st is) = (entry-low st′, entry-low st)
 
-  link-fits : {links : List ℕ} {k many : ℕ} {Of : Line → ℕ → Line → ℕ → Type 0} → ((x y : Line) (a b : ℕ) → Of x a y b → (lineNumber x < 32) × (lineNumber y < 32)) → 4 * many ≤ length links → k < many
+  link-fits : {links : List ℕ} {k many : ℕ} {Of : Line → ℕ → Line → ℕ → Type 0} → ((x y : Line) (a b : ℕ) → Of x a y b → (lineNumber x < lineCount) × (lineNumber y < lineCount)) → 4 * many ≤ length links → k < many
       → Says Of links k → LinkFits links k
   link-fits f long h says =
       let (x, y) = f (says .from) (says .on) (says .first) (says .second) (says .holds) in
@@ -96,15 +98,15 @@ module _ (store links : List ℕ) (few many : ℕ) (levels : List ℕ) (x i : �
   unfolding OfState
   event-few = room-fewer (linked (is-image .state) (is-image .rest) one .fewer) event-room
 
-  pub event-long : length levels ≡ 32
+  pub event-long : length levels ≡ lineCount
   unfolding OfState
   event-long = level-numbers (is-image .state) (is-image .rest) one .long
 
-  pub event-most : sumOf levels ≤ 65536
+  pub event-most : sumOf levels ≤ mostEvents
   unfolding OfState
   event-most = level-numbers (is-image .state) (is-image .rest) one .most
 
-  pub event-line : x < 32
+  pub event-line : x < lineCount
   unfolding OfState
   event-line =
       let h = happens (is-image .state) (is-image .rest) one in
@@ -166,14 +168,6 @@ module _ (store : List ℕ) (p i t : ℕ) (kind : ℕ) (read : OfState store (Of
   unfolding OfState OfEntry isCheck
   is-check-same number k numbered s rest holds e stands =
       ap (λ n. eqb n t) (numbered s rest holds e stands) ∙ sym (ap (isCheck t) (check-of (e .kind) (sym (read s rest holds e stands) ∙ k)))
-
-newest-true : (t : ℕ) (e : Entry) (h : List Entry) → isCheck t (asCheck (e .kind)) ≡ true → newestCheck t (e ∷ h) ≡ some (length h)
-unfolding newestCheck
-newest-true t e h i = rw (i, newestCheck) refl
-
-newest-false : (t : ℕ) (e : Entry) (h : List Entry) → isCheck t (asCheck (e .kind)) ≡ false → newestCheck t (e ∷ h) ≡ newestCheck t h
-unfolding newestCheck
-newest-false t e h i = rw (i, newestCheck) refl
 
 newest-nil : (t : ℕ) → newestCheck t [] ≡ none
 unfolding newestCheck

@@ -20,6 +20,7 @@ use Rattle.reading.specs.Reads.{OfState, IsEntry, OfEntry, OfSend}
 use Rattle.reading.proofs.Oldest.{entry-exists}
 use Rattle.reading.proofs.Slotted.{entry-below, entry-place}
 use Rattle.reading.specs.declared.found.Found.the-variants.{Nowhere, At}
+use Rattle.rollback.specs.Bounds.{mostPlaces, mostEntries}
 use Rattle.rollback.specs.declared.aims.Born.the-variants as Born
 use Rattle.rollback.specs.Listed.{IsKind, SpawnIn, BornBy, putLink, AimsAt, Adds}
 use Rattle.rollback.proofs.LinkAdds.{Just, adds-none, adds-one}
@@ -130,7 +131,7 @@ module _ (store : List ℕ) (p i : ℕ) (there-is : OfState store (IsEntry p i))
       unaimed (holds .sound) st (λ z. n (read s rest holds e (stands-entry st) ∙ z)))
 
 -- a spawn stands at a place that there is
-pub born-low : (store : List ℕ) (q u j : ℕ) → IsImage store → OfState store (BornBy q (Born.By u j)) → (u < 16) × (j < 64)
+pub born-low : (store : List ℕ) (q u j : ℕ) → IsImage store → OfState store (BornBy q (Born.By u j)) → (u < mostPlaces) × (j < mostEntries)
 unfolding OfState BornBy
 born-low store q u j is-image born =
     let s = is-image .state in

@@ -17,6 +17,7 @@ use Rattle.calls.specs.declared.answers.Answer.the-variants.{Done, Held}
 use Rattle.reading.specs.Reads.{Holds}
 use Rattle.reading.specs.declared.found.Found.{Found}
 use Rattle.reading.specs.declared.found.Found.the-variants.{Nowhere, At}
+use Rattle.rollback.specs.Bounds.{lineCount}
 use Rattle.rollback.specs.Links.{lineNumber, cutIn, Levels, Tied, Links}
 
 -- ---- the cut
@@ -49,18 +50,18 @@ pub record Blocked (links : List ℕ) (count x i : ℕ) (level : List ℕ) : Typ
 
 -- a line above the cut whose newest event no event that stays depends on
 pub record Free (links : List ℕ) (count : ℕ) (cut level : List ℕ) (x : ℕ) : Type 0 where
-  pub line : x < 32
+  pub line : x < lineCount
   pub above : getD cut x 0 < getD level x 0
   pub free : ¬ Blocked links count x (getD level x 0 - 1) level
 
 unfoldable pub FindsFree : (links : List ℕ) (count : ℕ) (cut level : List ℕ) → Found → Type 0
-FindsFree links count cut level Nowhere = (x : ℕ) → x < 32 → ¬ Free links count cut level x
+FindsFree links count cut level Nowhere = (x : ℕ) → x < lineCount → ¬ Free links count cut level x
 FindsFree links count cut level (At x) = Free links count cut level x
 
 -- whether no line stands above the cut
 unfoldable pub Reached : (cut level : List ℕ) → Bool → Type 0
-Reached cut level true = (x : ℕ) → x < 32 → getD level x 0 ≤ getD cut x 0
-Reached cut level false = (x : ℕ) × (x < 32) × (getD cut x 0 < getD level x 0)
+Reached cut level true = (x : ℕ) → x < lineCount → getD level x 0 ≤ getD cut x 0
+Reached cut level false = (x : ℕ) × (x < lineCount) × (getD cut x 0 < getD level x 0)
 
 -- the numbers of a state, and the cut of one of its events
 pub record Ready (s : State) (links : List ℕ) (many : ℕ) (cut levels : List ℕ) : Type 0 where

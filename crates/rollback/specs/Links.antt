@@ -8,9 +8,9 @@ use lib.ListN.{length, getD}
 use Rattle.rules.specs.State.{Message, letter, taking, asSend, asRec, asSpawn, Entry, State}
 use Rattle.rules.specs.Flight.{sends}
 use Rattle.rules.specs.Depends.{Line, entriesOf, deliveriesTo, level}
+use Rattle.rules.specs.Standing.{Stands, Arrives, seen}
 use Rattle.rules.specs.Rollback.{Cut}
-use Rattle.rules.proofs.EventDepends.{Stands, Arrives}
-use Rattle.rules.proofs.CutNumbers.{seen}
+use Rattle.rollback.specs.Bounds.{lineCount, mostEvents}
 
 -- line 2p is the entries of place p, line 2p + 1 the deliveries to it
 abbrev pub lineNumber : Line → ℕ
@@ -27,8 +27,8 @@ sumOf (n ∷ l) = n + sumOf l
 
 -- how many events each line has
 pub record Levels (s : State) (l : List ℕ) : Type 0 where
-  pub long : length l ≡ 32
-  pub most : sumOf l ≤ 65536
+  pub long : length l ≡ lineCount
+  pub most : sumOf l ≤ mostEvents
   pub are : (x : Line) → cutIn l x ≡ level s x
 
 -- 01's list of what depends at once on what, in numbers: event a of the first line on event b of the second
@@ -88,11 +88,11 @@ pub record Links (s : State) (links : List ℕ) (few many : ℕ) : Type 0 where
 
 -- ---- what the code needs of the numbers themselves
 
--- link k lies in the list, and its lines have numbers below 32
+-- link k lies in the list, and its lines are lines of places
 pub record LinkFits (links : List ℕ) (k : ℕ) : Type 0 where
   pub long : 4 * k + 4 ≤ length links
-  pub from-line : getD links (4 * k) 0 < 32
-  pub on-line : getD links (4 * k + 2) 0 < 32
+  pub from-line : getD links (4 * k) 0 < lineCount
+  pub on-line : getD links (4 * k + 2) 0 < lineCount
 
 pub record Room (links : List ℕ) (count : ℕ) : Type 0 where
   pub long : 4 * count ≤ length links

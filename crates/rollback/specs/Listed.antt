@@ -8,14 +8,16 @@ use Rattle.rules.specs.State.{Message, letter, taking, asSend, asRec, asSpawn, 
 use Rattle.rules.specs.Flight.{sends, leftOr}
 use Rattle.rules.specs.Sound.{SpawnedBy}
 use Rattle.rules.specs.Depends.{Line, entriesOf, deliveriesTo, level}
-use Rattle.rules.proofs.EventDepends.{Stands, Arrives}
-use Rattle.rules.proofs.CutNumbers.{seen}
+use Rattle.rules.specs.Standing.{Stands, Arrives, seen}
 use Rattle.store.specs.Layout.{kindNumber, nameWord}
 use Rattle.reading.specs.Reads.{OfState, OfEntry}
 use Rattle.reading.specs.declared.found.Found.{Found}
 use Rattle.reading.specs.declared.found.Found.the-variants.{Nowhere, At}
 use Rattle.rollback.specs.declared.aims.Born.{Born}
 use Rattle.rollback.specs.declared.aims.Born.the-variants as Born
+use Rattle.rollback.specs.declared.collecting.Sort.{Sort}
+use Rattle.rollback.specs.declared.collecting.Sort.the-variants as Sort
+use Rattle.rollback.specs.Bounds.{mostCome}
 use Rattle.rollback.specs.Links.{LinkAt, Says}
 
 -- entry i of p is of that kind
@@ -41,7 +43,7 @@ ArrivalIs q name (At j) s = (n : Message) × Arrives s q j n × (nameWord n ≡ 
 -- how many messages have come to p, which are not too many
 pub record ComeCount (p n : ℕ) (s : State) : Type 0 where
   pub count : n ≡ level s (deliveriesTo p)
-  pub few : n ≤ 1088
+  pub few : n ≤ mostCome
 
 -- the queue that the newest of entry i and the older ones left, by its length; of the older ones alone it was `before`
 unfoldable pub LeftAt : (q i before n : ℕ) → State → Type 0
@@ -77,13 +79,19 @@ pub data AimsAt (u j : ℕ) (s : State) : Line → ℕ → Line → ℕ → Type
   aim-at : {p i q : ℕ} {v : List ℕ} {f e : Entry} {h g : List Entry} → Stands s u j f h → asSend (f .kind) ≡ some (letter q v) → Stands s p i e g → asSpawn (e .kind) ≡ some q
       → AimsAt u j s (entriesOf u) j (entriesOf p) i
 
--- what an entry has of them, what the entries of p below i have, all entries of p, all entries of places below p
+-- such links by the entry that they are about
 abbrev pub Links4 : Type 1
 Links4 = Line → ℕ → Line → ℕ → Type 0
 
 abbrev pub ByEntry : Type 1
 ByEntry = ℕ → ℕ → State → Links4
 
+-- the links of a sort
+unfoldable pub OfSort : Sort → ByEntry
+OfSort Sort.Ties = TiesAt
+OfSort Sort.Aims = AimsAt
+
+-- what the entries of p below i have, all entries of p, all entries of places below p, all entries
 unfoldable pub Below : ByEntry → (p i : ℕ) → State → Links4
 Below F p i s x a y b = (j : ℕ) × (j < i) × F p j s x a y b
 
@@ -92,6 +100,9 @@ AtPlace F p s x a y b = (j : ℕ) × F p j s x a y b
 
 unfoldable pub BelowPlace : ByEntry → (p : ℕ) → State → Links4
 BelowPlace F p s x a y b = (q : ℕ) × (q < p) × AtPlace F q s x a y b
+
+unfoldable pub AtAll : ByEntry → State → Links4
+AtAll F s x a y b = (p : ℕ) × AtPlace F p s x a y b
 
 -- the links from one number to another are just these
 pub record LinkedIn (links : List ℕ) (from to : ℕ) (x : Line) (a : ℕ) (y : Line) (b : ℕ) : Type 0 where

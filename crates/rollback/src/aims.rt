@@ -17,8 +17,7 @@ ghost use Rattle.rules.specs.Depends.{isSpawnOf};
 ghost use Rattle.store.specs.Image.{IsImage};
 ghost use Rattle.store.specs.Layout.{kindSend};
 ghost use Rattle.reading.specs.Reads.{OfState, IsPlace, IsEntry, OfEntry};
-ghost use Rattle.rollback.specs.Links.{Tied, Links};
-ghost use Rattle.rollback.specs.Listed.{IsKind, SpawnIn, BornBy, AimsAt, AtPlace, Adds};
+ghost use Rattle.rollback.specs.Listed.{IsKind, SpawnIn, BornBy, AimsAt, Adds};
 
 // Where a spawn stands: its place and its number there.
 pub enum Born {
@@ -82,7 +81,7 @@ fn aim_send(store: &[u32], p: usize, i: usize, links: &mut [usize], count: usize
 }
 
 // Of any entry.
-fn aim_entry(store: &[u32], p: usize, i: usize, links: &mut [usize], count: usize) -> usize
+pub fn aim_entry(store: &[u32], p: usize, i: usize, links: &mut [usize], count: usize) -> usize
     requires { ⌜ IsImage (now store) × OfState (now store) (IsEntry p i) × (4 * count + 4 ≤ length (now links)) ⌝ }
     ensures { λ r. ⌜ Adds (now (store .entry)) (AimsAt p i) (now (links .entry)) (now (links .exit)) count r 1 ⌝ }
 {
@@ -90,34 +89,4 @@ fn aim_entry(store: &[u32], p: usize, i: usize, links: &mut [usize], count: usiz
         return count;
     }
     aim_send(store, p, i, links, count)
-}
-
-// Of the entries of p.
-fn aim_place(store: &[u32], p: usize, links: &mut [usize], count: usize) -> usize
-    requires { ⌜ IsImage (now store) × OfState (now store) (IsPlace p) × (4 * count + 256 ≤ length (now links)) ⌝ }
-    ensures { λ r. ⌜ Adds (now (store .entry)) (AtPlace AimsAt p) (now (links .entry)) (now (links .exit)) count r 64 ⌝ }
-{
-    let end = entry_count(store, p);
-    let mut n = count;
-    let mut i = 0;
-    while i < end {
-        n = aim_entry(store, p, i, links, n);
-        i += 1;
-    }
-    n
-}
-
-// Of all entries, behind 01's list.
-pub fn aim_all(store: &[u32], links: &mut [usize], count: usize) -> usize
-    requires { ⌜ IsImage (now store) × (length (now links) ≡ 12288) × OfState (now store) (λ s. Tied s (now links) count) × (count ≤ 2048) ⌝ }
-    ensures { λ r. ⌜ OfState (now (store .entry)) (λ s. Links s (now (links .exit)) count r) ⌝ }
-{
-    let end = places(store);
-    let mut n = count;
-    let mut p = 0;
-    while p < end {
-        n = aim_place(store, p, links, n);
-        p += 1;
-    }
-    n
 }

@@ -1,4 +1,5 @@
 // Arrivals: how many messages have come to a place, and which of them a message is.
+use crate::bounds::LINES;
 use reading::entries::kind;
 use reading::entries::queue_before;
 use reading::found::Found;
@@ -52,11 +53,11 @@ fn come_count(store: &[u32], p: usize) -> usize
 }
 
 // How many events each line has.
-pub fn levels(store: &[u32]) -> [usize; 32]
+pub fn levels(store: &[u32]) -> [usize; LINES]
     requires { ⌜ IsImage (now store) ⌝ }
     ensures { λ r. ⌜ OfState (now (store .entry)) (λ s. Levels s r) ⌝ }
 {
-    let mut levels = [0usize; 32];
+    let mut levels = [0usize; LINES];
     let end = places(store);
     let mut p = 0;
     while p < end {

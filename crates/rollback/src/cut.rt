@@ -1,11 +1,12 @@
 // The cut: how many events of each line stay, where an event goes with all that depend on it.
+use crate::bounds::LINES;
 use reading::found::Found;
 ghost use Rattle.lists.specs.Decides.{Decides};
 ghost use Rattle.rollback.specs.Links.{LinkFits, Room};
 ghost use Rattle.rollback.specs.Going.{Tears, FindsTorn, Settles};
 
 // Whether a cut tears link k: its event stays, and what it depends on goes.
-fn tears(links: &[usize], k: usize, cut: [usize; 32]) -> bool
+fn tears(links: &[usize], k: usize, cut: [usize; LINES]) -> bool
     requires { ⌜ LinkFits (now links) k ⌝ }
     ensures { λ r. ⌜ Decides (Tears (now (links .entry)) cut k) r ⌝ }
 {
@@ -21,7 +22,7 @@ fn tears(links: &[usize], k: usize, cut: [usize; 32]) -> bool
 }
 
 // The first of the links that a cut tears.
-fn torn(links: &[usize], count: usize, cut: [usize; 32]) -> Found
+fn torn(links: &[usize], count: usize, cut: [usize; LINES]) -> Found
     requires { ⌜ Room (now links) count ⌝ }
     ensures { λ r. ⌜ FindsTorn (now (links .entry)) count cut r ⌝ }
 {
@@ -36,7 +37,7 @@ fn torn(links: &[usize], count: usize, cut: [usize; 32]) -> Found
 }
 
 // The cut lowered until it tears no link.
-pub fn settled(links: &[usize], count: usize, from: [usize; 32]) -> [usize; 32]
+pub fn settled(links: &[usize], count: usize, from: [usize; LINES]) -> [usize; LINES]
     requires { ⌜ Room (now links) count ⌝ }
     ensures { λ r. ⌜ Settles (now (links .entry)) count from r ⌝ }
 {

@@ -1,4 +1,5 @@
 // Undoing down to a cut, in a store.
+use crate::bounds::LINES;
 use crate::search::next_line;
 use crate::search::seek;
 use calls::answers::Answer;
@@ -10,6 +11,7 @@ ghost use Rattle.store.specs.Image.{IsImage};
 ghost use Rattle.reading.specs.Reads.{OfState};
 ghost use Rattle.writing.specs.Writes.{Leads};
 ghost use Rattle.rules.specs.Rollback.{undoTo};
+ghost use Rattle.rollback.specs.Bounds.{mostEvents};
 ghost use Rattle.rollback.specs.Links.{cutIn, sumOf, Room};
 ghost use Rattle.rollback.specs.Going.{CanUndoLine, UndoesLine, Ready, Reaches, OfWords, Leaves, TakesBack};
 
@@ -30,8 +32,8 @@ fn undo_down(
     store: &mut [u32],
     links: &[usize],
     count: usize,
-    cut: [usize; 32],
-    levels: [usize; 32],
+    cut: [usize; LINES],
+    levels: [usize; LINES],
 )
     requires { ⌜ IsImage (now store) × Room (now links) count × OfState (now store) (λ s. Ready s (now links) count cut levels) × OfState (now store) (λ s. Reaches s (cutIn cut)) ⌝ }
     ensures { λ _. ⌜ OfWords (now (store .entry)) (λ s rest. Leaves s (cutIn cut) rest (now (store .exit))) ⌝ }
@@ -51,10 +53,10 @@ pub fn undo_to(
     store: &mut [u32],
     links: &[usize],
     count: usize,
-    cut: [usize; 32],
-    levels: [usize; 32],
+    cut: [usize; LINES],
+    levels: [usize; LINES],
 ) -> Answer
-    requires { ⌜ IsImage (now store) × Room (now links) count × (sumOf levels ≤ 65536) × OfState (now store) (λ s. Ready s (now links) count cut levels) ⌝ }
+    requires { ⌜ IsImage (now store) × Room (now links) count × (sumOf levels ≤ mostEvents) × OfState (now store) (λ s. Ready s (now links) count cut levels) ⌝ }
     ensures { λ r. ⌜ OfWords (now (store .entry)) (λ s rest. TakesBack s rest (now (store .exit)) (undoTo s (cutIn cut)) r) ⌝ }
 {
     let Answer::Done(n) = seek(links, count, cut, levels) else {

@@ -1,5 +1,5 @@
-// The numbers of a state that a rollback goes by: how many events each line has, and which event depends at once on which. Line 2p is the
-// entries of place p, line 2p + 1 the deliveries to it. A link is four numbers: event a of line x depends on event b of line y.
+// The links of an entry by 01's list: which event depends at once on which. Line 2p is the entries of place p, line 2p + 1 the deliveries
+// to it. A link is four numbers: event a of line x depends on event b of line y.
 use crate::arrivals::arrival;
 use crate::arrivals::recs_before;
 use reading::entries::kind;
@@ -9,23 +9,17 @@ use reading::found::Found;
 use reading::mail::NAME_BASE;
 use reading::mail::sends_before;
 use reading::mail::target;
-use reading::state::entry_count;
-use reading::state::places;
 use store::layout::REC;
 use store::layout::SEND;
 use store::layout::SPAWN;
 ghost use mathlib.Core.Path.{_≡_};
 ghost use Prim.Native.Nat.{_+_, _*_, _≤_};
 ghost use lib.ListN.{length};
-ghost use Rattle.rules.proofs.CutNumbers.{seen};
+ghost use Rattle.rules.specs.Standing.{seen};
 ghost use Rattle.store.specs.Image.{IsImage};
 ghost use Rattle.store.specs.Layout.{kindSend, kindRec, kindSpawn};
-ghost use Rattle.reading.specs.Reads.{OfState, IsPlace, IsEntry};
-ghost use Rattle.rollback.specs.Links.{Tied};
-ghost use Rattle.rollback.specs.Listed.{IsKind, OfRec, putLink, TiesAt, AtPlace, Adds};
-
-// How many numbers there are for all links: four for each, and three links for each of 16 times 64 entries.
-pub const LINKS: usize = 12288;
+ghost use Rattle.reading.specs.Reads.{OfState, IsEntry};
+ghost use Rattle.rollback.specs.Listed.{IsKind, OfRec, putLink, TiesAt, Adds};
 
 // A link, as link number `at`.
 pub fn put_link(links: &mut [usize], at: usize, x: usize, a: usize, y: usize, b: usize)
@@ -110,7 +104,7 @@ fn link_spawn(store: &[u32], p: usize, i: usize, links: &mut [usize], count: usi
 }
 
 // The links of entry i of p.
-fn link_entry(store: &[u32], p: usize, i: usize, links: &mut [usize], count: usize) -> usize
+pub fn link_entry(store: &[u32], p: usize, i: usize, links: &mut [usize], count: usize) -> usize
     requires { ⌜ IsImage (now store) × OfState (now store) (IsEntry p i) × (4 * count + 8 ≤ length (now links)) ⌝ }
     ensures { λ r. ⌜ Adds (now (store .entry)) (TiesAt p i) (now (links .entry)) (now (links .exit)) count r 2 ⌝ }
 {
@@ -127,34 +121,4 @@ fn link_entry(store: &[u32], p: usize, i: usize, links: &mut [usize], count: usi
         return count + 2;
     }
     count
-}
-
-// The links of the entries of p.
-fn link_place(store: &[u32], p: usize, links: &mut [usize], count: usize) -> usize
-    requires { ⌜ IsImage (now store) × OfState (now store) (IsPlace p) × (4 * count + 512 ≤ length (now links)) ⌝ }
-    ensures { λ r. ⌜ Adds (now (store .entry)) (AtPlace TiesAt p) (now (links .entry)) (now (links .exit)) count r 128 ⌝ }
-{
-    let end = entry_count(store, p);
-    let mut n = count;
-    let mut i = 0;
-    while i < end {
-        n = link_entry(store, p, i, links, n);
-        i += 1;
-    }
-    n
-}
-
-// The links of all entries: 01's list.
-pub fn link_all(store: &[u32], links: &mut [usize]) -> usize
-    requires { ⌜ IsImage (now store) × (length (now links) ≡ 12288) ⌝ }
-    ensures { λ r. ⌜ OfState (now (store .entry)) (λ s. Tied s (now (links .exit)) r) × (r ≤ 2048) ⌝ }
-{
-    let end = places(store);
-    let mut n = 0;
-    let mut p = 0;
-    while p < end {
-        n = link_place(store, p, links, n);
-        p += 1;
-    }
-    n
 }

@@ -1,10 +1,11 @@
 // Rollback.
-use crate::aims::aim_all;
 use crate::arrivals::levels;
+use crate::bounds::LINES;
+use crate::bounds::LINKS;
+use crate::collecting::Sort;
+use crate::collecting::collect;
 use crate::cut::settled;
 use crate::down::undo_to;
-use crate::links::LINKS;
-use crate::links::link_all;
 use calls::answers::Answer;
 use reading::entries::kind;
 use reading::entries::number;
@@ -54,7 +55,7 @@ fn event_back(
     links: &[usize],
     few: usize,
     many: usize,
-    levels: [usize; 32],
+    levels: [usize; LINES],
     x: usize,
     i: usize,
 ) -> Answer
@@ -74,8 +75,8 @@ pub fn take_back(store: &mut [u32], x: usize, i: usize) -> Answer
 {
     let level = levels(store);
     let mut links = [0usize; LINKS];
-    let few = link_all(store, &mut links);
-    let many = aim_all(store, &mut links, few);
+    let few = collect(store, Sort::Ties, &mut links, 0);
+    let many = collect(store, Sort::Aims, &mut links, few);
     event_back(store, &links, few, many, level, x, i)
 }
 

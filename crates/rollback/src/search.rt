@@ -1,14 +1,15 @@
 // Undoing on numbers alone: whether undos that are accepted lead down to a cut.
+use crate::bounds::LINES;
 use calls::answers::Answer;
 use reading::found::Found;
-ghost use mathlib.Core.Path.{_≡_};
 ghost use Prim.Native.Nat.{_≤_, _<_};
 ghost use Rattle.lists.specs.Decides.{Decides};
+ghost use Rattle.rollback.specs.Bounds.{lineCount, mostEvents};
 ghost use Rattle.rollback.specs.Links.{sumOf, LinkFits, Room};
 ghost use Rattle.rollback.specs.Going.{Blocks, Blocked, Free, FindsFree, Reached, Seeks};
 
 // Whether link k is of an event that stays, with event i of line x.
-fn blocks(links: &[usize], k: usize, x: usize, i: usize, level: [usize; 32]) -> bool
+fn blocks(links: &[usize], k: usize, x: usize, i: usize, level: [usize; LINES]) -> bool
     requires { ⌜ LinkFits (now links) k ⌝ }
     ensures { λ r. ⌜ Decides (Blocks (now (links .entry)) x i level k) r ⌝ }
 {
@@ -26,7 +27,7 @@ fn blocks(links: &[usize], k: usize, x: usize, i: usize, level: [usize; 32]) -> 
 }
 
 // Whether an event that stays depends on event i of line x.
-fn blocked(links: &[usize], count: usize, x: usize, i: usize, level: [usize; 32]) -> bool
+fn blocked(links: &[usize], count: usize, x: usize, i: usize, level: [usize; LINES]) -> bool
     requires { ⌜ Room (now links) count ⌝ }
     ensures { λ r. ⌜ Decides (Blocked (now (links .entry)) count x i level) r ⌝ }
 {
@@ -41,8 +42,8 @@ fn blocked(links: &[usize], count: usize, x: usize, i: usize, level: [usize; 32]
 }
 
 // Whether line x stands above the cut, and its newest event may be undone.
-fn free(links: &[usize], count: usize, cut: [usize; 32], level: [usize; 32], x: usize) -> bool
-    requires { ⌜ Room (now links) count × (x < 32) ⌝ }
+fn free(links: &[usize], count: usize, cut: [usize; LINES], level: [usize; LINES], x: usize) -> bool
+    requires { ⌜ Room (now links) count × (x < lineCount) ⌝ }
     ensures { λ r. ⌜ Decides (Free (now (links .entry)) count cut level x) r ⌝ }
 {
     if level[x] <= cut[x] {
@@ -55,12 +56,12 @@ fn free(links: &[usize], count: usize, cut: [usize; 32], level: [usize; 32], x: 
 }
 
 // The first such line.
-pub fn next_line(links: &[usize], count: usize, cut: [usize; 32], level: [usize; 32]) -> Found
+pub fn next_line(links: &[usize], count: usize, cut: [usize; LINES], level: [usize; LINES]) -> Found
     requires { ⌜ Room (now links) count ⌝ }
     ensures { λ r. ⌜ FindsFree (now (links .entry)) count cut level r ⌝ }
 {
     let mut x = 0;
-    while x < 32 {
+    while x < LINES {
         if free(links, count, cut, level, x) {
             return Found::At(x);
         }
@@ -70,11 +71,11 @@ pub fn next_line(links: &[usize], count: usize, cut: [usize; 32], level: [usize;
 }
 
 // Whether no line stands above the cut.
-fn reached(cut: [usize; 32], level: [usize; 32]) -> bool
+fn reached(cut: [usize; LINES], level: [usize; LINES]) -> bool
     ensures { λ r. ⌜ Reached cut level r ⌝ }
 {
     let mut x = 0;
-    while x < 32 {
+    while x < LINES {
         if cut[x] < level[x] {
             return false;
         }
@@ -84,8 +85,8 @@ fn reached(cut: [usize; 32], level: [usize; 32]) -> bool
 }
 
 // How many undos lead from the levels down to the cut, or 13.
-pub fn seek(links: &[usize], count: usize, cut: [usize; 32], levels: [usize; 32]) -> Answer
-    requires { ⌜ Room (now links) count × (sumOf levels ≤ 65536) ⌝ }
+pub fn seek(links: &[usize], count: usize, cut: [usize; LINES], levels: [usize; LINES]) -> Answer
+    requires { ⌜ Room (now links) count × (sumOf levels ≤ mostEvents) ⌝ }
     ensures { λ r. ⌜ Seeks (now (links .entry)) count cut levels r ⌝ }
 {
     let mut level = levels;

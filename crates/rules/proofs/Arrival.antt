@@ -15,24 +15,11 @@ use Rattle.rules.specs.State.{Message, Taking, taking, asRec, Entry, Sta
 use Rattle.rules.specs.Flight.{alsoTaken, taken, leftOr, left}
 use Rattle.rules.specs.Sound.{Prefix, Flows}
 use Rattle.rules.specs.Depends.{queueBefore, queuesShown, isAmong, shownIn, arrivals}
+use Rattle.rules.specs.Standing.{whole, shownOr, shown, come}
 use Rattle.rules.proofs.Messages.{Any, here, there, Is, any-none, any-append, any-left, any-right, any-more, any-middle, any-less, any-map, Named, named-found, named-not, find-named, Once, once-out, once-give}
-use Rattle.rules.proofs.Histories.{whole}
 use Rattle.rules.proofs.SoundFacts.{FlowsBy, flows-left, prefix-length}
 
 -- ---- the closed form
-unfoldable pub shownOr : Option Taking → List Message → List Message → List Message
-shownOr none left shown = shown
-shownOr (some (taking a m d)) left shown = shown ++ drop (length left) (a ++ (m ∷ d))
-
--- what the queues before the recs of a history show
-unfoldable pub shown : List Entry → List Message
-shown [] = []
-shown (e ∷ h) = shownOr (asRec (e .kind)) (left h) (shown h)
-
--- and one more queue
-unfoldable pub come : List Entry → List Message → List Message
-come h queue = shown h ++ drop (length (left h)) queue
-
 pub come-none : (e : Entry) (h : List Entry) (queue : List Message) → asRec (e .kind) ≡ none → come (e ∷ h) queue ≡ come h queue
 unfolding come shown shownOr left leftOr
 come-none e h queue i = rw i refl

@@ -10,11 +10,11 @@ use Rattle.rules.specs.State.{Message, letter, taking, asSend, asRec, as
 use Rattle.rules.specs.Flight.{sends}
 use Rattle.rules.specs.Sound.{Sound}
 use Rattle.rules.specs.Depends.{Line, entriesOf, deliveriesTo, level, WithDependents}
+use Rattle.rules.specs.Standing.{Stands, Arrives, seen}
 use Rattle.rules.specs.Rollback.{Cut, cutTo, event, cutBefore}
-use Rattle.rules.proofs.EventDepends.{Stands, Arrives}
 use Rattle.rules.proofs.Removal.{total}
 use Rattle.rules.proofs.Cut.{Within, IsCut, dependents-up, closed-cut, cut-at, cut-low, lowered-within, start-low, start-within, cut-is, cut-below, place-below, total-less}
-use Rattle.rules.proofs.CutNumbers.{seen, Good, good-closed, pull-send, pull-child, pull-since, pull-rec}
+use Rattle.rules.proofs.CutNumbers.{Good, good-closed, pull-send, pull-child, pull-since, pull-rec}
 
 -- two cuts of one set are the same
 cut-one : {s : State} {set : Line → ℕ → Type 0} {k k′ : Cut} → IsCut s set k → IsCut s set k′ → ((x : Line) → k′ x ≤ level s x) → (x : Line) → k′ x ≤ k x

@@ -15,19 +15,17 @@ use Rattle.rules.specs.State.{Message, Letter, letter, Taking, taking, a
 use Rattle.rules.specs.Flight.{sends, sent, taken, leftOr, left}
 use Rattle.rules.specs.Sound.{SentTo, Prefix, Flows, Sound}
 use Rattle.rules.specs.Depends.{queueBefore, isAmong, arrivals, Line, entriesOf, deliveriesTo, level, isSpawnOf, inQueueBefore, olderThan, lacks, madeBefore, isSendOf, listed, dependsAtOnce}
+use Rattle.rules.specs.Standing.{Suffix, whole, older, Stands, Arrives, shownOr, shown, come, seen}
 use Rattle.rules.specs.Rollback.{Cut}
 use Rattle.rules.proofs.Messages.{Any, here, there, Is, any-append, any-left, any-right, any-middle, any-none, any-map, Named, Once, once-of}
-use Rattle.rules.proofs.Histories.{Suffix, whole, older, suffix-length, suffix-tail, suffix-sent}
+use Rattle.rules.proofs.Histories.{suffix-length, suffix-tail, suffix-sent}
 use Rattle.rules.proofs.SoundFacts.{mail}
-use Rattle.rules.proofs.Arrival.{shownOr, shown, come, come-more, nil-flows, flows-none, flows-rec, none-flows, rec-flows, taken-none, taken-rec, taken-nil, once-come, length-come, any-come, among, among-of, once-apart}
+use Rattle.rules.proofs.Arrival.{come-more, nil-flows, flows-none, flows-rec, none-flows, rec-flows, taken-none, taken-rec, taken-nil, once-come, length-come, any-come, among, among-of, once-apart}
 use Rattle.rules.proofs.Event.{suffix-trans, arrivals-at}
-use Rattle.rules.proofs.EventDepends.{Stands, Arrives, Like, stands-older, stands-low, entry-stands, elem-arrives, arrival, on-spawn-entry, on-spawn-delivery, on-queue, on-since, on-send, spawn-of, send-of}
+use Rattle.rules.proofs.EventDepends.{Like, stands-older, stands-low, entry-stands, elem-arrives, arrival, on-spawn-entry, on-spawn-delivery, on-queue, on-since, on-send, spawn-of, send-of}
 use Rattle.rules.proofs.Cut.{Upward, Within, Closed, upto, depends-listed}
 
 -- ---- the arrivals that a rec has seen
-abbrev pub seen : List Message → Message → List Message → List Entry → ℕ
-seen a m d g = length (come g (a ++ (m ∷ d)))
-
 -- at a rec, the queue before it flows from the older ones
 pub flows-at : {e : Entry} {g h : List Entry} {a d : List Message} {m : Message} (queue : List Message) → Suffix (e ∷ g) h → asRec (e .kind) ≡ some (taking a m d) → Flows h queue → Flows g (a ++ (m ∷ d))
 flows-at {e} {g} queue whole is f = flows-rec e g queue is f .1

@@ -18,15 +18,16 @@ use Rattle.rules.specs.Rules.{process, message, InFlight, alone, by-send
 use Rattle.rules.specs.Independent.{Apart, mailbox, ifRec, receiver}
 use Rattle.rules.specs.Sound.{Sound}
 use Rattle.rules.specs.Depends.{arrivals, Line, entriesOf, deliveriesTo, level}
+use Rattle.rules.specs.Standing.{Suffix, whole, older, come}
 use Rattle.rules.proofs.Views.{made-alone, alone-rec}
 use Rattle.rules.proofs.Messages.{pick-is, once-of}
-use Rattle.rules.proofs.Histories.{Suffix, whole, older, suffix-length, suffix-top}
+use Rattle.rules.proofs.Histories.{suffix-length, suffix-top}
 use Rattle.rules.proofs.Frame.{Turned, same, grown, shrunk, turned, keep-queue, in-pool}
 use Rattle.rules.proofs.Deeds.{new-is-other}
 use Rattle.rules.proofs.Questions.{at?, no-rec}
 use Rattle.rules.proofs.Undo.{Backward}
 use Rattle.rules.proofs.SoundFacts.{left-fits}
-use Rattle.rules.proofs.Arrival.{come, come-none, come-rec, come-more, arrivals-are}
+use Rattle.rules.proofs.Arrival.{come-none, come-rec, come-more, arrivals-are}
 
 abbrev pub comeAt : State → ℕ → List Message
 comeAt s q = come (historyAt s q) (s .queues q)

@@ -12,23 +12,12 @@ use Rattle.lists.proofs.Tests.{true-not-false, none-not-some, some-injective, e
 use Rattle.rules.specs.State.{Message, Letter, taking, asSend, asRec, asSpawn, Entry, State, historyAt, entryAt, isNamed}
 use Rattle.rules.specs.Flight.{sends, taken}
 use Rattle.rules.specs.Depends.{queueBefore, arrivals, Line, entriesOf, deliveriesTo, level, isSpawnOf, inQueueBefore, olderThan, lacks, madeBefore, isSendOf, listed, dependsAtOnce}
+use Rattle.rules.specs.Standing.{Suffix, whole, older, Stands, Arrives}
 use Rattle.rules.proofs.Messages.{Any, Named, is-named, named-is}
-use Rattle.rules.proofs.Histories.{Suffix, whole, older, suffix-length, suffix-entry, entry-suffix}
+use Rattle.rules.proofs.Histories.{suffix-length, suffix-entry, entry-suffix}
 use Rattle.rules.proofs.Event.{Under, low, suffix-trans}
 use Rattle.rules.proofs.Arrival.{among-of, not-among}
 use Rattle.rules.proofs.Cut.{depends-from, depends-on, depends-listed, depends-of, Closed}
-
--- entry i of p, with the older ones
-pub record Stands (s : State) (p i : ℕ) (e : Entry) (g : List Entry) : Type 0 where
-  pub at : Suffix (e ∷ g) (historyAt s p)
-  pub index : length g ≡ i
-
--- arrival j at q
-pub record Arrives (s : State) (q j : ℕ) (m : Message) : Type 0 where
-  pub before : List Message
-  pub after : List Message
-  pub at : arrivals s q ≡ before ++ (m ∷ after)
-  pub index : length before ≡ j
 
 -- ---- by number
 older-here : (e : Entry) (h : List Entry) (j : ℕ) → length h ≡ j → olderThan j (e ∷ h) ≡ h

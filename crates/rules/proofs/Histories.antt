@@ -10,6 +10,7 @@ use lib.ListN.{length}
 use Rattle.lists.proofs.Tests.{none-not-some, some-injective, eqb-apart, eqb-same, eqb-of, cond-true, cond-false}
 use Rattle.rules.specs.State.{Message, Letter, Taking, taking, asSend, asRec, Entry, entryAt}
 use Rattle.rules.specs.Flight.{countLetter, sends, letterOr, sent, alsoTaken, taken, leftOr}
+pub use Rattle.rules.specs.Standing.{Suffix, whole, older}
 use Rattle.rules.proofs.Messages.{Any, here, there, Is}
 
 pub below-not-same : {a b : ℕ} → a < b → a ≡ b → ⊥
@@ -17,25 +18,25 @@ below-not-same h e = omega arith
 
 -- ---- sends
 -- an entry that is no send of the count does not change what was sent
-pub letter-older : (o : Option Letter) (n k : ℕ) (older : Option Letter) → (o ≡ none) ⊎ ¬ (n ≡ k) → letterOr o n k older ≡ older
+pub letter-older : (o : Option Letter) (n k : ℕ) (rest : Option Letter) → (o ≡ none) ⊎ ¬ (n ≡ k) → letterOr o n k rest ≡ rest
 unfolding letterOr
-letter-older none n k older h = refl
-letter-older (some l) n k older (inl e) = none-not-some (sym e)
-letter-older (some l) n k older (inr h) = cond-false (some l) older (eqb-apart n k h)
+letter-older none n k rest h = refl
+letter-older (some l) n k rest (inl e) = none-not-some (sym e)
+letter-older (some l) n k rest (inr h) = cond-false (some l) rest (eqb-apart n k h)
 
-pub letter-own : (l : Letter) (n : ℕ) (older : Option Letter) → letterOr (some l) n n older ≡ some l
+pub letter-own : (l : Letter) (n : ℕ) (rest : Option Letter) → letterOr (some l) n n rest ≡ some l
 unfolding letterOr
-letter-own l n older = cond-true (some l) older (eqb-same n)
+letter-own l n rest = cond-true (some l) rest (eqb-same n)
 
 -- what was sent is an older entry's, or this one's
-pub letter-which : (o : Option Letter) (n k : ℕ) (older : Option Letter) {l : Letter} → letterOr o n k older ≡ some l → (older ≡ some l) ⊎ ((o ≡ some l) × (n ≡ k))
+pub letter-which : (o : Option Letter) (n k : ℕ) (rest : Option Letter) {l : Letter} → letterOr o n k rest ≡ some l → (rest ≡ some l) ⊎ ((o ≡ some l) × (n ≡ k))
 unfolding letterOr
-letter-which none n k older e = inl e
-letter-which (some m) n k older {l} e = go (ℕ-discrete n k)
+letter-which none n k rest e = inl e
+letter-which (some m) n k rest {l} e = go (ℕ-discrete n k)
   where
-    go : Dec (n ≡ k) → (older ≡ some l) ⊎ ((some m ≡ some l) × (n ≡ k))
-    go (yes i) = inr (sym (cond-true (some m) older (eqb-of n k i)) ∙ e, i)
-    go (no i) = inl (sym (cond-false (some m) older (eqb-apart n k i)) ∙ e)
+    go : Dec (n ≡ k) → (rest ≡ some l) ⊎ ((some m ≡ some l) × (n ≡ k))
+    go (yes i) = inr (sym (cond-true (some m) rest (eqb-of n k i)) ∙ e, i)
+    go (no i) = inl (sym (cond-false (some m) rest (eqb-apart n k i)) ∙ e)
 
 pub count-grows : (o : Option Letter) (n : ℕ) → n ≤ countLetter o n
 unfolding countLetter
@@ -56,10 +57,6 @@ sent-below (x ∷ h) k {l} e = go (letter-which (asSend (x .kind)) (sends h) k (
     go (inr i) f = let z : sends h ≡ k = i .1 in omega (arith, count-letter (sends h) (i .0))
 
 -- ---- suffixes: what was the history when an entry was the newest
-pub data Suffix (g : List Entry) : List Entry → Type 0 where
-  whole : Suffix g g
-  older : {e : Entry} {h : List Entry} → Suffix g h → Suffix g (e ∷ h)
-
 pub suffix-length : {g h : List Entry} → Suffix g h → length g ≤ length h
 suffix-length {g} whole = omega arith
 suffix-length (older s) = let z = suffix-length s in omega arith

@@ -13,7 +13,8 @@ use Rattle.rules.specs.Commands.{Deed, Move, entry}
 use Rattle.rules.specs.Rules.{Does}
 use Rattle.rules.specs.Independent.{Apart, actor, unspawns, IndependentDeeds}
 use Rattle.rules.specs.Sound.{SentTo, Sound}
-use Rattle.rules.proofs.Histories.{Suffix, suffix-top, suffix-tail, suffix-length, sent-suffix}
+use Rattle.rules.specs.Standing.{Suffix}
+use Rattle.rules.proofs.Histories.{suffix-top, suffix-tail, suffix-length, sent-suffix}
 use Rattle.rules.proofs.Frame.{history-of}
 use Rattle.rules.proofs.Deeds.{target, Unspawning, unspawning, sending}
 use Rattle.rules.proofs.Square.{Calm, apart-sym}

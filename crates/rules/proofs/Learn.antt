@@ -14,8 +14,9 @@ use Rattle.rules.specs.Commands.{Deed, undoes, Beside, Move, apply, entr
 use Rattle.rules.specs.Rules.{process, by-seq, by-self, by-check, Makes, alone, by-send, by-receive, by-spawn, Does}
 use Rattle.rules.specs.Independent.{unspawns, Unsends}
 use Rattle.rules.specs.Sound.{SentTo, Sound}
+use Rattle.rules.specs.Standing.{Suffix}
 use Rattle.rules.proofs.Messages.{Is, any-middle, pick-is, pick-takes}
-use Rattle.rules.proofs.Histories.{Suffix, suffix-top, suffix-tail, suffix-entry, suffix-sent, suffix-taken}
+use Rattle.rules.proofs.Histories.{suffix-top, suffix-tail, suffix-entry, suffix-sent, suffix-taken}
 use Rattle.rules.proofs.Frame.{turned, not-in-pool, history-of}
 use Rattle.rules.proofs.Deeds.{unspawning}
 use Rattle.rules.proofs.Questions.{Among, Posts, among-was}

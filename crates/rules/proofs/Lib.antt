@@ -1,3 +1,4 @@
+-- The rules meet 01's demands.
 pub mod Arrival
 pub mod Event
 pub mod EventSound

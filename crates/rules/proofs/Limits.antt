@@ -24,7 +24,8 @@ use Rattle.rules.specs.Reverse.{reverse, retake}
 use Rattle.rules.specs.Limits.{NotRetaken, NotCommuting}
 use Rattle.rules.specs.Opened.{opened}
 use Rattle.rules.specs.Cases.{pair}
-use Rattle.rules.proofs.Histories.{Suffix, entry-suffix, suffix-cons, no-suffix}
+use Rattle.rules.specs.Standing.{Suffix}
+use Rattle.rules.proofs.Histories.{entry-suffix, suffix-cons, no-suffix}
 
 -- the processes of a list stand at the first places
 unfoldable placed : List Process → ℕ → Option Process

@@ -15,8 +15,10 @@ use Rattle.rules.specs.Flight.{sends, taken, alsoTaken}
 use Rattle.rules.specs.Commands.{Deed, makes, undoes, delivers, undelivers, Move, setProcess, setQueue, setBeside, apply, entry}
 use Rattle.rules.specs.Rules.{message, alone, by-send, by-receive, by-spawn, undo-alone, undo-send, undo-receive, undo-spawn, Does, forward, backward}
 use Rattle.rules.specs.Independent.{Apart, actor, mailbox, actsAt, ifRec, receiver, spawnsInto, unspawns, Unsends, Crossed, IndependentDeeds}
+use Rattle.rules.specs.Reverse.{isForward}
 use Rattle.rules.specs.Sound.{Sound}
 use Rattle.rules.specs.Depends.{arrivals, Line, entriesOf, deliveriesTo, level, dependsAtOnce}
+use Rattle.rules.specs.Standing.{Stands, Arrives}
 use Rattle.rules.specs.Rollback.{Cut, isUndo}
 use Rattle.rules.proofs.Views.{made-alone, alone-rec, alone-send}
 use Rattle.rules.proofs.Messages.{Any, here, there, any-less, any-middle, Named, pick-is}
@@ -28,7 +30,7 @@ use Rattle.rules.proofs.Knows.{calm}
 use Rattle.rules.proofs.Reached.{Reached, reached-after}
 use Rattle.rules.proofs.Event.{lineOf, line?, Forward, Under, low, suffix-trans, Down, up, topped, popped, arrivals-kept, undelivered-last, delivered-last, arrivals-last, arrivals-new}
 use Rattle.rules.proofs.EventSound.{sound-undone}
-use Rattle.rules.proofs.EventDepends.{Stands, Arrives, Like, on-spawn-entry, on-spawn-delivery, on-queue, on-since, on-send, closed-under}
+use Rattle.rules.proofs.EventDepends.{Like, on-spawn-entry, on-spawn-delivery, on-queue, on-since, on-send, closed-under}
 use Rattle.rules.proofs.Removal.{Back, halt, took, back-under, lower, backward-of}
 use Rattle.rules.proofs.Cut.{Closed, later-depends}
 
@@ -222,7 +224,7 @@ record Unstepped (s after : State) : Type 0 where
   gives : apply move after ≡ s
 
 unstep : {s : State} {w : Move} (d : Deed) → Sound s → Does s d w → Forward d → Unstepped s (apply w s)
-unfolding Forward isUndo
+unfolding Forward isUndo isForward
 unstep (makes p kind) sound a f = let u = undo-forward sound a in record { by = u .deed; move = u .move; does = u .does; undoes-it = backward-of (u .deed) (ap isUndo (u .is)); gives = u .gives }
 unstep (delivers sender k t) sound a f = let u = undo-deliver sound a in record { by = u .deed; move = u .move; does = u .does; undoes-it = backward-of (u .deed) (ap isUndo (u .is)); gives = u .gives }
 unstep (undoes _ _ _) sound a f = absurd f

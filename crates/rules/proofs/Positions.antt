@@ -17,7 +17,8 @@ use Rattle.rules.specs.Load.{newProcess}
 use Rattle.rules.specs.Commands.{Deed, makes, undoes, Beside, Move, turn, other, setProcess, setQueue, setBeside, apply, entry}
 use Rattle.rules.specs.Rules.{process, Makes, alone, by-send, by-receive, by-spawn, undo-alone, undo-send, undo-receive, undo-spawn, Does, forward, backward, sched, unsched}
 use Rattle.rules.specs.Independent.{spawnsInto}
-use Rattle.rules.proofs.Histories.{Suffix, older, suffix-cons, suffix-top, suffix-length}
+use Rattle.rules.specs.Standing.{Suffix, older}
+use Rattle.rules.proofs.Histories.{suffix-cons, suffix-top, suffix-length}
 use Rattle.rules.proofs.Frame.{Turned, same, grown, shrunk, turned, in-pool, history-of}
 use Rattle.rules.proofs.Deeds.{Spawning, spawning}
 

@@ -6,11 +6,12 @@ use mathlib.Core.Bool.{true, false}
 use mathlib.Core.Option.{some}
 use native.Mathlib.Decide.{ℕ-discrete, decLt}
 use native.Mathlib.Omega.{arith}
-use Rattle.lists.proofs.Tests.{true-not-false, none-not-some, some-injective, ltb-true, ltb-of, ltb-false, ltb-over}
-use Rattle.rules.specs.State.{seq, send, rec, spawn, self, check, State, inPool}
+use Rattle.lists.proofs.Tests.{true-not-false, none-not-some, some-injective, ltb-true, ltb-of, ltb-false, ltb-over, not-true}
+use Rattle.rules.specs.State.{State, inPool}
 use Rattle.rules.specs.Commands.{Command, Deed, makes, undoes, delivers, undelivers, Move, apply, Plan, refuse, accept, afterPlan, run, runState}
-use Rattle.rules.specs.Rules.{Does, forward, backward, sched, unsched, makingOf, commandOf}
+use Rattle.rules.specs.Rules.{Does, forward, backward, sched, unsched, commandOf}
 use Rattle.rules.specs.Independent.{unspawns}
+use Rattle.rules.specs.Reverse.{isForward}
 use Rattle.rules.specs.Sound.{Sound}
 use Rattle.rules.specs.Depends.{Line, entriesOf, deliveriesTo, level, happened}
 use Rattle.rules.specs.Rollback.{isUndo, Undos, stop, undo, Removes, undoOf}
@@ -21,24 +22,17 @@ use Rattle.rules.proofs.Undo.{Backward, undos-independent}
 use Rattle.rules.proofs.Knows.{apart-if, unspawns-apart}
 use Rattle.rules.proofs.RunSound.{run-sound}
 use Rattle.rules.proofs.RunComplete.{run-complete}
+use Rattle.rules.proofs.Steps.{goes-back}
 use Rattle.rules.proofs.Event.{lineOf, line?, Under, under-refl, under-trans, low, Down, down}
 use Rattle.rules.proofs.EventSound.{sound-undone}
 
 -- ---- which command undoes
 pub backward-of : (d : Deed) → isUndo (commandOf d) ≡ true → Backward d
-unfolding isUndo commandOf makingOf Backward
-backward-of (makes p seq) e = true-not-false e refl
-backward-of (makes p (send _ _)) e = true-not-false e refl
-backward-of (makes p (rec _ _ _)) e = true-not-false e refl
-backward-of (makes p (spawn _)) e = true-not-false e refl
-backward-of (makes p self) e = true-not-false e refl
-backward-of (makes p (check _)) e = true-not-false e refl
-backward-of (undoes p n kind) e = tt
-backward-of (delivers s k t) e = true-not-false e refl
-backward-of (undelivers t) e = tt
+unfolding isUndo
+backward-of d e = goes-back d (not-true (isForward (commandOf d)) e)
 
 pub backward-undoes : (d : Deed) → Backward d → isUndo (commandOf d) ≡ true
-unfolding isUndo commandOf Backward
+unfolding isUndo isForward commandOf Backward
 backward-undoes (makes p kind) b = absurd b
 backward-undoes (undoes p n kind) b = refl
 backward-undoes (delivers s k t) b = absurd b
@@ -53,7 +47,7 @@ command-of-line (delivers s k t) b = absurd b
 command-of-line (undelivers t) b = refl
 
 pub undo-of : (x : Line) → isUndo (undoOf x) ≡ true
-unfolding undoOf isUndo
+unfolding undoOf isUndo isForward
 undo-of (entriesOf p) = refl
 undo-of (deliveriesTo q) = refl
 

@@ -16,8 +16,9 @@ use Rattle.rules.specs.Commands.{Deed, makes, undoes, Beside, nothing, o
 use Rattle.rules.specs.Rules.{process, MakesAlone, Makes, alone, by-send, by-receive, by-spawn, Undoes, undo-alone, undo-send, undo-receive, undo-spawn, Does, forward, backward, makingOf, commandOf}
 use Rattle.rules.specs.Independent.{spawnsInto, unspawns, Apart}
 use Rattle.rules.specs.Sound.{Sound}
+use Rattle.rules.specs.Standing.{Suffix}
 use Rattle.rules.proofs.Messages.{pick-is}
-use Rattle.rules.proofs.Histories.{Suffix, suffix-top, nil-cons}
+use Rattle.rules.proofs.Histories.{suffix-top, nil-cons}
 use Rattle.rules.proofs.Frame.{turned, work-after, alone-after, same-sizes, state-path, not-in-pool, history-of}
 use Rattle.rules.proofs.Deeds.{process-control, new-is-other}
 use Rattle.rules.proofs.Questions.{stays-live, spawns-free, flight-lives}

@@ -64,11 +64,11 @@ module _ {s : State} {set : Line → ℕ → Type 0} {k : Cut} (sound : Sound s)
       go none e = subst Outcome (sym (undo-none e)) (stands (λ t n r. all-fails (length (takenOff s k)) k sound below (count-off s k below) e (removes-run sound r) (removes-cut r)))
 
 -- ---- the newest check entry
-newest-true : (t : ℕ) (e : Entry) (h : List Entry) → isCheck t (asCheck (e .kind)) ≡ true → newestCheck t (e ∷ h) ≡ some (length h)
+pub newest-true : (t : ℕ) (e : Entry) (h : List Entry) → isCheck t (asCheck (e .kind)) ≡ true → newestCheck t (e ∷ h) ≡ some (length h)
 unfolding newestCheck
 newest-true t e h i = rw (i, newestCheck) refl
 
-newest-false : (t : ℕ) (e : Entry) (h : List Entry) → isCheck t (asCheck (e .kind)) ≡ false → newestCheck t (e ∷ h) ≡ newestCheck t h
+pub newest-false : (t : ℕ) (e : Entry) (h : List Entry) → isCheck t (asCheck (e .kind)) ≡ false → newestCheck t (e ∷ h) ≡ newestCheck t h
 unfolding newestCheck
 newest-false t e h i = rw (i, newestCheck) refl
 

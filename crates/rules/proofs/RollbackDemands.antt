@@ -20,11 +20,11 @@ use Rattle.rules.specs.Commands.{Command, Deed, makes, undoes, delivers,
 use Rattle.rules.specs.Rules.{process}
 use Rattle.rules.specs.Sound.{Sound}
 use Rattle.rules.specs.Depends.{queuesShown, shownIn, arrivals, Line, entriesOf, deliveriesTo, level, happened, WithDependents}
+use Rattle.rules.specs.Standing.{Suffix, whole, older}
 use Rattle.rules.specs.Rollback.{Removes, Rollback, is-done, is-held, no-check, no-process, event, stays, cutBefore, RolledBack, refused, rolled, undoTo}
 use Rattle.rules.specs.Reverse.{isForward}
 use Rattle.rules.specs.Demands.{Reachable}
 use Rattle.rules.specs.RollbackDemands.{DependentsAreACut, sumBelow, goneAt, eventsGone, RemovalIsDetermined, RollbackIsExact, NeverHeld, RollbackDemands}
-use Rattle.rules.proofs.Histories.{Suffix, whole, older}
 use Rattle.rules.proofs.Undo.{Backward}
 use Rattle.rules.proofs.SoundLoad.{sizes-say, Loads, loads-of, load-history}
 use Rattle.rules.proofs.Reached.{Reached, reached-load}

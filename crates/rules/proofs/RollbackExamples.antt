@@ -25,7 +25,8 @@ use Rattle.rules.specs.Opened.{opened}
 use Rattle.rules.specs.RollbackCases.{someAtom, sendTo, message0, receivedFirst, held-received}
 use Rattle.rules.specs.Rollback.{Rollback, numberOf, countOf, endOf}
 use Rattle.rules.specs.Demands.{Reachable}
-use Rattle.rules.proofs.Histories.{Suffix, whole, entry-suffix, sent-suffix, suffix-cons, no-suffix}
+use Rattle.rules.specs.Standing.{Suffix, whole}
+use Rattle.rules.proofs.Histories.{entry-suffix, sent-suffix, suffix-cons, no-suffix}
 use Rattle.rules.proofs.Messages.{any-none, of-once}
 use Rattle.rules.proofs.Arrival.{taken-nil, nil-flows}
 use Rattle.rules.proofs.RollbackDemands.{rollback-demands}

@@ -19,21 +19,22 @@ use Rattle.rules.specs.Commands.{Deed, undelivers, Beside, nothing, ownQ
 use Rattle.rules.specs.Rules.{process, InFlight, Alone, Undoes, undo-alone, undo-send, undo-receive, undo-spawn, Does, forward, backward, sched, unsched}
 use Rattle.rules.specs.Sound.{Flows, Sound}
 use Rattle.rules.specs.Depends.{arrivals, Line, entriesOf, deliveriesTo, level}
+use Rattle.rules.specs.Standing.{Suffix, whole, older, Stands, Arrives, come, seen}
 use Rattle.rules.specs.Rollback.{Cut, Removes, undoOf}
 use Rattle.rules.proofs.Messages.{Any, here, there, any-append, any-left, any-right, any-middle, any-none, Named}
-use Rattle.rules.proofs.Histories.{Suffix, whole, older, suffix-length, suffix-top, suffix-sent, sent-suffix}
+use Rattle.rules.proofs.Histories.{suffix-length, suffix-top, suffix-sent, sent-suffix}
 use Rattle.rules.proofs.Frame.{process-of, no-process, history-of}
 use Rattle.rules.proofs.Questions.{Came, flight-of, flight-fresh}
 use Rattle.rules.proofs.Undo.{Backward}
 use Rattle.rules.proofs.SoundFacts.{child-lives}
-use Rattle.rules.proofs.Arrival.{come, come-nil, taken-nil, length-come, come-none, come-more, flows-none, flows-rec, flows-long, swapped, any-come}
+use Rattle.rules.proofs.Arrival.{come-nil, taken-nil, length-come, come-none, come-more, flows-none, flows-rec, flows-long, swapped, any-come}
 use Rattle.rules.proofs.Event.{lineOf, line?, comeAt, come-taken, arrivals-at, Under, under-refl, under-trans, suffix-trans, Down}
 use Rattle.rules.proofs.EventSound.{sound-undone}
-use Rattle.rules.proofs.EventDepends.{Stands, Arrives, arrives-low}
+use Rattle.rules.proofs.EventDepends.{arrives-low}
 use Rattle.rules.proofs.Removal.{Undone, undone-of, of-undone, Back, halt, took, lower, back-under, sound-back, removes-run, lost, through}
 use Rattle.rules.proofs.Cut.{IsCut}
 use Rattle.rules.proofs.Rollback.{cut-removes, removes-cut}
-use Rattle.rules.proofs.CutNumbers.{seen, seen-first}
+use Rattle.rules.proofs.CutNumbers.{seen-first}
 
 -- ---- the undo of the newest event that k keeps on a line
 pub data Can (s : State) (k : Cut) : Line → Type 0 where

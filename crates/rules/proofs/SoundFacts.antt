@@ -10,8 +10,9 @@ use lib.ListN.{length, length-append}
 use Rattle.rules.specs.State.{Message, letter, Taking, taking, asRec, asSpawn, Entry, State, historyAt, inPool}
 use Rattle.rules.specs.Flight.{sent, taken, leftOr, left}
 use Rattle.rules.specs.Sound.{SentTo, Prefix, Flows, SpawnedBy, Sound}
+use Rattle.rules.specs.Standing.{Suffix}
 use Rattle.rules.proofs.Messages.{Is, any-left, any-right, any-find, all-at, Named}
-use Rattle.rules.proofs.Histories.{Suffix, suffix-entry}
+use Rattle.rules.proofs.Histories.{suffix-entry}
 use Rattle.rules.proofs.Questions.{Among, Came}
 
 -- the flow of one entry with the older ones

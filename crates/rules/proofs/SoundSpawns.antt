@@ -13,7 +13,8 @@ use Rattle.rules.specs.Commands.{Deed, makes, Move, apply, entry}
 use Rattle.rules.specs.Rules.{process, Does, forward}
 use Rattle.rules.specs.Independent.{Apart, spawnsInto, unspawns}
 use Rattle.rules.specs.Sound.{SpawnedBy, Sound}
-use Rattle.rules.proofs.Histories.{Suffix, suffix-top, suffix-length, suffix-entry, entry-suffix}
+use Rattle.rules.specs.Standing.{Suffix}
+use Rattle.rules.proofs.Histories.{suffix-top, suffix-length, suffix-entry, entry-suffix}
 use Rattle.rules.proofs.Frame.{Turned, same, grown, shrunk, turned, same-sizes, not-in-pool}
 use Rattle.rules.proofs.Deeds.{spawning, Unspawning, unspawning, process-history}
 use Rattle.rules.proofs.Questions.{at?, stays-live, stays-free, spawns-free, spawns-live}

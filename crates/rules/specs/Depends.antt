@@ -8,7 +8,7 @@ use mathlib.Core.List.{List, [], _∷_, _++_}
 use lib.Dec.{eqb, ltb}
 use lib.ListN.{length, getElem?}
 use Rattle.lists.specs.Lists.{any, keep}
-use Rattle.rules.specs.State.{Message, Kind, Taking, taking, asSend, asRec, asSpawn, Entry, State, historyAt, entryAt, isNamed}
+use Rattle.rules.specs.State.{Message, Taking, taking, asSend, asRec, asSpawn, Entry, State, historyAt, entryAt, isNamed}
 use Rattle.rules.specs.Flight.{sends, taken}
 
 -- Arrivals. "Arrivals at a process are ordered by the first queue that shows them, then by place in it."

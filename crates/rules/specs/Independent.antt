@@ -2,7 +2,7 @@
 use Prim.Native.Nat.{ℕ}
 use mathlib.Core.Path.{_≡_}
 use mathlib.Core.Option.{Option, none, some}
-use Rattle.rules.specs.State.{Kind, Letter, letter, Taking, taking, asSend, asRec, asSpawn, State}
+use Rattle.rules.specs.State.{Taking, asSend, asRec, asSpawn, State}
 use Rattle.rules.specs.Commands.{Command, Deed, makes, undoes, delivers, undelivers, Move, accept, run}
 
 -- not both there and the same

@@ -1,3 +1,4 @@
+-- States, commands, and 01's demands on them.
 pub mod Answers
 pub mod State
 pub mod Flight
@@ -9,6 +10,7 @@ pub mod Reverse
 pub mod Sound
 pub mod Independent
 pub mod Depends
+pub mod Standing
 pub mod Rollback
 pub mod Text
 pub mod Line

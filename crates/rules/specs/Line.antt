@@ -1,9 +1,9 @@
 -- Text commands. 01: "command lines (LF, last one optional; numbers 0..255, no leading zeros)". Assumes nothing: these are definitions.
 use Prim.Native.Nat.{ℕ, _+_, _*_, _-_}
 use Prim.Native.String.{String}
-use mathlib.Core.Bool.{Bool, true, false, cond, _&&_}
+use mathlib.Core.Bool.{true, false, cond, _&&_}
 use mathlib.Core.Option.{Option, none, some}
-use mathlib.Core.List.{List, [], _∷_, _++_}
+use mathlib.Core.List.{List, [], _∷_}
 use lib.Dec.{eqb, leb}
 use Rattle.rules.specs.Commands.{Command, step, spawnInto, deliver, back, undeliver}
 use Rattle.rules.specs.Text.{bytes, lineFeed, comma, zeroDigit}

@@ -1,7 +1,7 @@
 -- Load. 01: "Load: 2, 1." and "Load puts `apply 0()` at place 0." Assumes nothing: these are definitions.
 use Prim.Native.Nat.{ℕ}
 use mathlib.Core.Bool.{Bool, true, false, _&&_}
-use mathlib.Core.Option.{Option, none, some}
+use mathlib.Core.Option.{none, some}
 use mathlib.Core.List.{List, [], _∷_}
 use lib.Dec.{leb}
 use Rattle.lists.specs.Tables.{put}

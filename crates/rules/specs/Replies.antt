@@ -1,17 +1,16 @@
 -- What the program bench replies to command lines. Assumes nothing: these are definitions.
 use Prim.Native.Nat.{ℕ}
-use mathlib.Core.Bool.{Bool, true, false}
 use mathlib.Core.Option.{Option, none, some}
 use mathlib.Core.List.{List, [], _∷_, _++_}
 use Rattle.rules.specs.Answers.{done, notAState, badLine}
-use Rattle.rules.specs.State.{Sizes, State}
-use Rattle.rules.specs.Load.{Load, loads, load}
+use Rattle.rules.specs.State.{State}
+use Rattle.rules.specs.Load.{Load, loads}
 use Rattle.rules.specs.Load
-use Rattle.rules.specs.Commands.{Command, Plan, refuse, accept, apply, run}
+use Rattle.rules.specs.Commands.{Plan, refuse, accept, apply, run}
 use Rattle.rules.specs.Rollback.{RolledBack, rolled, rollback}
 use Rattle.rules.specs.Rollback
 use Rattle.rules.specs.Text.{decimal, line}
-use Rattle.rules.specs.Line.{Request, single, rollbackTo, linesOf, parseLine}
+use Rattle.rules.specs.Line.{Request, single, rollbackTo, parseLine}
 use Rattle.rules.specs.Listing.{listing}
 
 -- an answer's number, what an accepted rollback adds, and the state after

@@ -11,7 +11,8 @@ use lib.ListN.{length}
 use Rattle.lists.specs.Lists.{any, keep, joined, upTo}
 use Rattle.rules.specs.Answers.{done, noProcess, held, noCheckpoint}
 use Rattle.rules.specs.State.{asCheck, Entry, State, historyAt, inPool}
-use Rattle.rules.specs.Commands.{Command, step, spawnInto, deliver, back, undeliver, runState}
+use Rattle.rules.specs.Commands.{Command, back, undeliver, runState}
+use Rattle.rules.specs.Reverse.{isForward}
 use Rattle.rules.specs.Depends.{Line, entriesOf, deliveriesTo, level, happened, dependsAtOnce, WithDependents}
 
 -- p's newest check entry t, counted from the oldest entry
@@ -25,11 +26,7 @@ newestCheck t (e ∷ older) = elim (isCheck t (asCheck (e .kind))) [ true ↦ so
 
 -- so many accepted undos lead from one state to another
 unfoldable pub isUndo : Command → Bool
-isUndo (step p) = false
-isUndo (spawnInto p f) = false
-isUndo (deliver s k) = false
-isUndo (back p) = true
-isUndo (undeliver p) = true
+isUndo c = not (isForward c)
 
 pub data Undos : State → State → ℕ → Type 0 where
   stop : {s : State} → Undos s s 0

@@ -2,14 +2,14 @@
 use Prim.Native.Nat.{ℕ, _≤_}
 use mathlib.Core.Path.{_≡_}
 use mathlib.Core.Bool.{Bool, true, false, not, _&&_}
-use mathlib.Core.Option.{Option, none, some}
+use mathlib.Core.Option.{none, some}
 use mathlib.Core.List.{List, [], _∷_, _++_}
 use lib.ListN.{length}
 use Rattle.lists.specs.Lists.{any, All}
 use Rattle.term.specs.Module.{checkModule}
 use Rattle.term.specs.Control.{goodControl, moduleArities}
 use Rattle.machine.specs.Work.{toSend, work}
-use Rattle.rules.specs.State.{Message, Letter, letter, Taking, taking, asSend, asRec, asSpawn, asCheck, Entry, Process, State, historyAt, entryAt, inPool, isNamed}
+use Rattle.rules.specs.State.{Message, letter, taking, asSend, asRec, asSpawn, asCheck, Entry, Process, State, historyAt, entryAt, inPool, isNamed}
 use Rattle.rules.specs.Flight.{sent, taken}
 use Rattle.rules.specs.Load.{goodSizes}
 

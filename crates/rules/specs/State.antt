@@ -3,7 +3,7 @@
 use Prim.Native.Nat.{ℕ}
 use mathlib.Core.Bool.{Bool, true, false, cond, _&&_}
 use mathlib.Core.Option.{Option, none, some}
-use mathlib.Core.List.{List, [], _∷_, _++_}
+use mathlib.Core.List.{List, [], _∷_}
 use lib.Dec.{eqb}
 use lib.ListN.{length}
 use Rattle.lists.specs.Lists.{sameList}
@@ -19,6 +19,10 @@ pub record Message : Type 0 where
   pub sender : ℕ
   pub count : ℕ
   pub value : List ℕ
+
+-- a name in one word, as stores and listings have it: sender × nameBase + count
+abbrev pub nameBase : ℕ
+nameBase = 65536
 
 -- what an entry holds besides the control before. A rec's queue before is what stood before its message, the message, and what stood
 -- after it; so its message stands in it, and what it left is that queue without it.

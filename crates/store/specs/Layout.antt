@@ -9,6 +9,7 @@ use Rattle.lists.specs.Fill.{fillTo}
 use Rattle.term.specs.Module.{longestModule}
 use Rattle.rules.specs.State.{Sizes, Message, Kind, seq, send, rec, spawn, self, check, asRec, Entry, Process, State}
 use Rattle.rules.specs.Depends.{queueBefore}
+pub use Rattle.rules.specs.State.{nameBase}
 
 -- P, H, W and the module's length; then the module's words; then a block for each place
 abbrev pub headWords : ℕ
@@ -80,9 +81,6 @@ slotWords sizes x =
     ∷ (fillTo (sizes .words) 0 (x .control) ++ fillTo (namesRoom sizes) 0 (x .names))
 
 -- a message by its name, as a word
-abbrev pub nameBase : ℕ
-nameBase = 65536
-
 abbrev pub nameWord : Message → ℕ
 nameWord m = m .sender * nameBase + m .count
 

@@ -1,3 +1,4 @@
+-- Laws of texts as bytes.
 pub mod WritingLaws
 pub mod DigitLaws
 pub mod SpacedLaws

@@ -4,16 +4,15 @@ use mathlib.Core.List.{List, [], _∷_, _++_, map, map-append, append-nil, appen
 use Prim.Native.Nat.{ℕ, _+_, _*_, _/_, _%_, _<_}
 use native.Mathlib.Omega.{arith}
 use native.Mathlib.Numerals.{add-one}
-use Rattle.lists.specs.Lists.{keep, joined, upTo}
-use Rattle.rules.specs.Flight.{flight}
+use Rattle.lists.specs.Lists.{joined, upTo}
 use mathlib.Core.Option.{some}
 use lib.ListN.{length}
-use Rattle.rules.specs.State.{Message, Process, State, inPool}
-use Rattle.rules.specs.Listing.{nameText, messageText, flightText, newestName, processLines, listing}
+use Rattle.rules.specs.State.{Message, nameBase, Process}
+use Rattle.rules.specs.Listing.{nameText, messageText, newestName, processLines}
 use Rattle.text.specs.declared.listing.Newest.{Newest}
 use Rattle.text.specs.Written.{Wrote}
 use Rattle.text.proofs.WritingLaws.{wrote-then}
-use Rattle.text.specs.Lines.{nameBase, nameIn, newestText, newestBytes, processesLine, pidLine, historyLine, newestLine, queueLine, wordsLine, flightLine, processText}
+use Rattle.text.specs.Lines.{nameIn, newestText, newestBytes, pidLine, historyLine, newestLine, queueLine, wordsLine, processText}
 
 -- the newest entry's kind is known
 pub wrote-kind : (newest kind : Newest) {old new : List ℕ} {at e : ℕ} → newest ≡ kind → Wrote (newestBytes kind) at old new e → Wrote (newestBytes newest) at old new e
@@ -47,14 +46,3 @@ module _ (text : ℕ → List ℕ) where
 
   pub wrote-place : (n : ℕ) {old mid new : List ℕ} {at b e : ℕ} → Wrote (joined (map text (upTo n))) at old mid b → Wrote (text n) b mid new e → Wrote (joined (map text (upTo (n + 1)))) at old new e
   wrote-place n w v = rw (joined-next n) (wrote-then w v)
-
-  -- a place with no process has no lines
-  pub wrote-no-place : (n : ℕ) {old new : List ℕ} {at e : ℕ} → text n ≡ [] → Wrote (joined (map text (upTo n))) at old new e → Wrote (joined (map text (upTo (n + 1)))) at old new e
-  wrote-no-place n z w = rw (joined-next n, z, append-nil (joined (map text (upTo n)))) w
-
--- the whole listing
-pub wrote-listing : (s : State) (n : ℕ) (names : List ℕ) {old mid mid′ new : List ℕ} {at b b′ e : ℕ} → n ≡ length (keep (inPool s) (upTo (s .sizes .places))) → map nameIn names ≡ map flightText (flight s)
-    → Wrote (processesLine n) at old mid b → Wrote (joined (map (λ p. processLines p (s .queues p) (s .processes p)) (upTo (s .sizes .places)))) b mid mid′ b′ → Wrote (flightLine names) b′ mid′ new e
-    → Wrote (listing s) at old new e
-unfolding listing processesLine flightLine
-wrote-listing s n names i q w v f = wrote-then (wrote-then (rw i at w) v) (rw q at f)

@@ -4,7 +4,7 @@ use mathlib.Core.Logic.{inl, inr}
 use mathlib.Core.Bool.{_&&_}
 use mathlib.Core.Option.{Option, none, some}
 use mathlib.Core.List.{List, [], _∷_}
-use Prim.Native.Nat.{ℕ, zero, suc, _+_, _-_, _*_, _<_, _≤_}
+use Prim.Native.Nat.{ℕ, suc, _+_, _-_, _*_, _<_, _≤_}
 use Prim.Native.String.{String}
 use native.Mathlib.Omega.{arith}
 use native.Mathlib.Decide.{decLe}
@@ -13,7 +13,6 @@ use lib.ListN.{length, take, drop, length-drop}
 use lib.Seq.{length-take-le}
 use Rattle.lists.proofs.Tests.{eqb-false, leb-true, and-left, true-or-false, none-not-some}
 use Rattle.rules.specs.Text.{bytes, comma, zeroDigit}
-use Rattle.rules.specs.Commands.{step, deliver, back, undeliver}
 use Rattle.rules.specs.Line.{Request, split, digitsSay, ofByte, number, after, oneNumber, twoNumbers, keyed, parseLine}
 use Rattle.text.specs.Pieces.{before}
 use Rattle.text.proofs.PieceLaws.{split-more, split-last}

@@ -47,10 +47,6 @@ module _ (separator : ℕ) (text : List ℕ) (i : ℕ) where
   unfolding pieceEnd
   end-over end e h = omega arith
 
-  pub end-within : pieceEnd separator text i ≤ length text
-  unfolding pieceEnd
-  end-within = omega arith
-
 -- a text with a separator: the bytes before it, and the pieces of the bytes after it
 pub split-more : (separator : ℕ) (bs : List ℕ) → before separator bs < length bs → split separator bs ≡ take (before separator bs) bs ∷ split separator (drop (suc (before separator bs)) bs)
 unfolding before split ontoFirst

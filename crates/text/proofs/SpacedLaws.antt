@@ -1,15 +1,16 @@
 -- Laws of rows written with single spaces between their pieces.
 use mathlib.Core.Path.{_≡_, refl, sym, ap, _∙_}
 use mathlib.Core.List.{List, [], _∷_, _++_, map, map-append, append-assoc}
-use Prim.Native.Nat.{ℕ, zero, suc, _+_, _-_, _/_, _%_, _<_, _≤_}
+use Prim.Native.Nat.{ℕ, zero, suc, _+_, _/_, _%_, _<_, _≤_}
 use native.Mathlib.Omega.{arith}
 use native.Mathlib.Numerals.{add-one}
 use lib.ListN.{length, take, getD, length-map}
 use lib.Seq.{take-suc, take-all, length-take-le}
+use Rattle.rules.specs.State.{nameBase}
 use Rattle.rules.specs.Text.{decimal, hex, spaced, space, point}
 use Rattle.rules.specs.Listing.{nameText}
 use Rattle.text.specs.Written.{far, onward, Wrote, gap}
-use Rattle.text.specs.Lines.{nameBase, nameIn}
+use Rattle.text.specs.Lines.{nameIn}
 use Rattle.text.proofs.WritingLaws.{wrote-then, wrote-none}
 
 -- rows split by single spaces
@@ -57,7 +58,3 @@ pub wrote-name-more : (l : List ℕ) (i : ℕ) {old mid mid′ new : List ℕ} {
     → Wrote (nameText (getD l i 0 / nameBase) (getD l i 0 % nameBase)) b′ mid′ new e → Wrote (spaced (map nameIn (take (i + 1) l))) at old new e
 unfolding nameIn
 wrote-name-more l i h w g v = wrote-piece nameIn l i 0 h w g v
-
--- a piece written after others, which need not stand in a list of their own
-pub wrote-spaced : (xs : List (List ℕ)) (x : List ℕ) {old mid mid′ new : List ℕ} {at b b′ e : ℕ} → Wrote (spaced xs) at old mid b → Wrote (gap (length xs)) b mid mid′ b′ → Wrote x b′ mid′ new e → Wrote (spaced (xs ++ (x ∷ []))) at old new e
-wrote-spaced xs x w g v = rw (spaced-more xs x) (wrote-then w (wrote-then g v))

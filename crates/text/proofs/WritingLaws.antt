@@ -1,7 +1,7 @@
 -- Laws of writing one text after another, as far as the output reaches.
 use mathlib.Core.Path.{_≡_, refl, sym, ap, _∙_}
 use mathlib.Core.List.{List, [], _∷_, _++_}
-use Prim.Native.Nat.{ℕ, suc, _+_, _-_, _<_, _≤_}
+use Prim.Native.Nat.{ℕ, suc, _+_, _<_, _≤_}
 use native.Mathlib.Omega.{arith}
 use native.Mathlib.Nat.{add-zero, add-suc, suc-add}
 use native.Mathlib.Numerals.{add-one}
@@ -71,10 +71,6 @@ wrote-fits {ws} {old} {new} {at} {e} w h =
     let s = w .short in
     let d : e ≡ at + length ws = let x = w .end-is in omega arith in
     (d, w .new-is ∙ rw d (sets-eq ws old at (omega arith)))
-
--- what ends past the output has no room in it
-pub wrote-over : {ws old new : List ℕ} {at e : ℕ} → Wrote ws at old new e → length old < e → length old < at + length ws
-wrote-over w h = let x = w .end-is in omega arith
 
 -- measured on any output, before it is written into another that is shorter than `far`
 pub measured-fits : {ws old new : List ℕ} {e room : ℕ} → Wrote ws 0 old new e → room < far → e ≤ room → length ws ≡ e

@@ -2,15 +2,13 @@
 use Prim.Native.Nat.{ℕ, _/_, _%_}
 use Prim.Native.String.{String}
 use mathlib.Core.List.{List, _++_, map}
+use Rattle.rules.specs.State.{nameBase}
 use Rattle.rules.specs.Text.{bytes, decimal, hex, spaced, line}
 use Rattle.rules.specs.Listing.{nameText}
 use Rattle.text.specs.declared.listing.Newest.{Newest}
 use Rattle.text.specs.declared.listing.Newest.the-variants.{Seq, Send, Rec, Spawn, Own, Check, Nothing}
 
--- a message's name in a word: sender × 65536 + count
-abbrev pub nameBase : ℕ
-nameBase = 65536
-
+-- the name of a message that a word is
 unfoldable pub nameIn : ℕ → List ℕ
 nameIn w = nameText (w / nameBase) (w % nameBase)
 

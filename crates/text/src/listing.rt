@@ -20,7 +20,7 @@ use crate::writing::write_gap;
 use crate::writing::write_line_feed;
 use crate::writing::write_name;
 use crate::writing::write_words;
-ghost use mathlib.Core.List.{List, map};
+ghost use mathlib.Core.List.{map};
 ghost use Rattle.rules.specs.Text.{spaced};
 ghost use Rattle.text.specs.Written.{Wrote};
 ghost use Rattle.text.specs.Lines.{nameIn, processesLine, pidLine, historyLine, newestBytes, newestLine, queueLine, wordsLine, flightLine, processText};

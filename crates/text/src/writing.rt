@@ -4,7 +4,7 @@ use crate::keys::LINE_FEED;
 use crate::keys::POINT;
 use crate::keys::SPACE;
 ghost use mathlib.Core.Path.{_≡_};
-ghost use mathlib.Core.List.{List, [], _∷_, _++_, map};
+ghost use mathlib.Core.List.{[], _∷_, map};
 ghost use Prim.Native.Nat.{_+_, _<_};
 ghost use Rattle.rules.specs.Text.{lineFeed, decimal, hex, hexIn, hexDigit, spaced};
 ghost use Rattle.rules.specs.Listing.{nameText};

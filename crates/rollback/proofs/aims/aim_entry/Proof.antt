@@ -1,5 +1,4 @@
 -- `rollback::aims::aim_entry` meets its contract.
-use Prim.Native.Nat.{_-_}
 use Rattle.rollback.proofs.LinkReads.{kind-is}
 use Rattle.rollback.proofs.SpawnReads.{aim-other}
 use borrow.Author.Needs.{needs}

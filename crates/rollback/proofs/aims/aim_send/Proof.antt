@@ -3,7 +3,6 @@ use mathlib.Core.Path.{subst}
 use Rattle.rollback.specs.Listed.{BornBy}
 use Rattle.rollback.specs.declared.aims.Born.{Born}
 use Rattle.reading.specs.Reads.{OfState}
-use Prim.Native.Nat.{_-_}
 use native.Mathlib.Omega.{arith}
 use Rattle.rollback.proofs.LinkReads.{send-is}
 use Rattle.rollback.proofs.SpawnReads.{aim-adds, aim-adds-none, born-low}

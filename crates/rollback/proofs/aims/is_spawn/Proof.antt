@@ -1,5 +1,4 @@
 -- `rollback::aims::is_spawn` meets its contract.
-use Prim.Native.Nat.{_-_}
 use Rattle.reading.specs.Reads.{OfState, OfEntry}
 use Rattle.rollback.proofs.SpawnReads.{is-spawn-no, is-spawn-same}
 use borrow.Author.Needs.{needs}

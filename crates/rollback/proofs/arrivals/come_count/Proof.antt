@@ -2,7 +2,7 @@
 use lib.ListN.{length}
 use Rattle.rollback.specs.Listed.{ComeCount}
 use Rattle.reading.specs.Reads.{OfState}
-use Prim.Native.Nat.{_+_, _-_}
+use Prim.Native.Nat.{_+_}
 use native.Mathlib.Omega.{arith}
 use Rattle.rollback.proofs.ArrivalReads.{come-counted}
 use Rattle.rollback.proofs.LinkWhole.{end-upto, come-low}

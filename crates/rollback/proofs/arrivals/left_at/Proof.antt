@@ -1,5 +1,4 @@
 -- `rollback::arrivals::left_at` meets its contract.
-use Prim.Native.Nat.{_-_}
 use Rattle.rollback.proofs.ArrivalReads.{left-rec, left-other, names-some}
 use borrow.Author.Needs.{needs}
 use Rattle.rollback.proofs.arrivals.left_at.Statement.{statement}

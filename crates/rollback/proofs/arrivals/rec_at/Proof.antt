@@ -1,5 +1,4 @@
 -- `rollback::arrivals::rec_at` meets its contract.
-use Prim.Native.Nat.{_-_}
 use Rattle.rollback.proofs.ArrivalReads.{rec-one, rec-other}
 use borrow.Author.Needs.{needs}
 use Rattle.rollback.proofs.arrivals.rec_at.Statement.{statement}

@@ -1,9 +1,10 @@
 -- `rollback::cut::settled` meets its contract.
 use mathlib.Core.Path.{subst, _≡_, _∙_}
 use Rattle.reading.specs.declared.found.Found.the-variants.{At}
+use Rattle.rollback.specs.Bounds.{lineCount}
 use Rattle.rollback.specs.Links.{LinkFits, sumOf}
 use Rattle.rollback.specs.Going.{FindsTorn}
-use Prim.Native.Nat.{_+_, _*_, _-_, _<_}
+use Prim.Native.Nat.{_+_, _*_, _<_}
 use native.Mathlib.Omega.{arith}
 use lib.ListN.{length, length-set}
 use borrow.Author.Needs.{needs}
@@ -13,7 +14,7 @@ use Rattle.rollback.proofs.cut.settled.Tie as tie
 
 abbrev Inv-loop : tie.InvT-loop
 Inv-loop links count cut₀ cut =
-    (length cut ≡ 32) × Lowering links count cut₀ cut
+    (length cut ≡ lineCount) × Lowering links count cut₀ cut
 
 abbrev μ-loop : tie.MeasureT-loop
 μ-loop links count cut₀ cut = sumOf cut

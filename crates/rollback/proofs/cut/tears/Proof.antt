@@ -1,5 +1,4 @@
 -- `rollback::cut::tears` meets its contract.
-use Prim.Native.Nat.{_-_}
 use Rattle.rollback.proofs.LinkTests.{tears-not, tears-not-on}
 use borrow.Author.Needs.{needs}
 use Rattle.rollback.proofs.cut.tears.Statement.{statement}

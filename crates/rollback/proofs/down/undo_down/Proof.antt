@@ -1,9 +1,9 @@
 -- `rollback::down::undo_down` meets its contract.
 use mathlib.Core.Path.{subst, _≡_, refl, _∙_}
 use Rattle.reading.specs.declared.found.Found.the-variants.{At}
+use Rattle.rollback.specs.Bounds.{lineCount}
 use Rattle.rollback.specs.Going.{Free, FindsFree}
 use Rattle.rollback.proofs.Lines.{sum-less}
-use Prim.Native.Nat.{_-_}
 use native.Mathlib.Omega.{arith}
 use lib.ListN.{length, length-set}
 use borrow.Author.Needs.{needs}
@@ -14,7 +14,7 @@ use Rattle.rollback.proofs.down.undo_down.Tie as tie
 
 abbrev Inv-loop : tie.InvT-loop
 Inv-loop store₀ links count cut level₀ store level =
-    (length level ≡ 32) × (length store ≡ length store₀) × Undoing store₀ links count cut level₀ store level
+    (length level ≡ lineCount) × (length store ≡ length store₀) × Undoing store₀ links count cut level₀ store level
 
 abbrev μ-loop : tie.MeasureT-loop
 μ-loop store₀ links count cut level₀ store level = sumOf level

@@ -1,5 +1,4 @@
 -- `rollback::down::undo_line` meets its contract.
-use Prim.Native.Nat.{_-_}
 use Rattle.rollback.proofs.LinkDown.{even-can, odd-can, even-leads, odd-leads}
 use borrow.Author.Needs.{needs}
 use Rattle.rollback.proofs.down.undo_line.Statement.{statement}

@@ -2,7 +2,6 @@
 use mathlib.Core.Path.{subst}
 use Rattle.rollback.specs.Going.{Seeks}
 use Rattle.calls.specs.declared.answers.Answer.the-variants.{Done}
-use Prim.Native.Nat.{_-_}
 use Rattle.rollback.proofs.LinkDown.{seek-reaches, seek-holds, seek-leaves}
 use borrow.Author.Needs.{needs}
 use Rattle.rollback.proofs.down.undo_to.Statement.{statement}

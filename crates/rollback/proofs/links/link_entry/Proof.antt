@@ -1,5 +1,4 @@
 -- `rollback::links::link_entry` meets its contract.
-use Prim.Native.Nat.{_-_}
 use native.Mathlib.Omega.{arith}
 use Rattle.rollback.proofs.LinkReads.{kind-is, other-adds}
 use borrow.Author.Needs.{needs}

@@ -1,5 +1,4 @@
 -- `rollback::links::link_rec` meets its contract.
-use Prim.Native.Nat.{_-_}
 use native.Mathlib.Omega.{arith}
 use Rattle.rollback.proofs.LinkReads.{rec-some, rec-adds}
 use Rattle.rollback.proofs.LinkWhole.{entry-low}

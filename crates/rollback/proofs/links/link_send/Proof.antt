@@ -5,7 +5,7 @@ use Rattle.reading.specs.declared.found.Found.{Found}
 use Rattle.reading.specs.Reads.{OfState}
 use Rattle.store.specs.Layout.{nameBase}
 use mathlib.Core.Path.{subst}
-use Prim.Native.Nat.{_+_, _*_, _-_}
+use Prim.Native.Nat.{_+_, _*_}
 use native.Mathlib.Omega.{arith}
 use Rattle.rollback.proofs.LinkWhole.{entry-low, entry-upto, entry-is-place}
 use borrow.Author.Needs.{needs}

@@ -1,7 +1,7 @@
 -- `rollback::links::put_link` meets its contract.
 use lib.ListN.{set}
 use lib.Seq.{lt-length-set}
-use Prim.Native.Nat.{_+_, _*_, _-_}
+use Prim.Native.Nat.{_+_, _*_}
 use mathlib.Core.Path.{refl}
 use native.Mathlib.Omega.{arith}
 use Rattle.rollback.specs.Listed.{putLink}

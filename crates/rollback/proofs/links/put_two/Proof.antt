@@ -1,10 +1,15 @@
 -- `rollback::links::put_two` meets its contract.
-use mathlib.Core.Path.{_∙_, ap}
+use Prim.Native.Nat.{ℕ, _+_}
+use mathlib.Core.Path.{_≡_, _∙_, ap}
+use mathlib.Core.List.{List}
 use Rattle.rollback.specs.Listed.{putLink}
-use Prim.Native.Nat.{_+_, _-_}
 use borrow.Author.Needs.{needs}
 use Rattle.rollback.proofs.links.put_two.Statement.{statement}
 use Rattle.rollback.proofs.links.put_two.Tie as tie
+
+-- one link put, and another behind it
+twice : (old new last : List ℕ) (at x a y b v c w d : ℕ) → new ≡ putLink old at x a y b → last ≡ putLink new (at + 1) v c w d → last ≡ putLink (putLink old at x a y b) (at + 1) v c w d
+twice old new last at x a y b v c w d e f = f ∙ ap (λ l. putLink l (at + 1) v c w d) e
 
 put-link-requires : tie.Need-put-link-requires
 put-link-requires c κs = search needs
@@ -19,7 +24,7 @@ same-length : tie.Need-same-length
 same-length c = search needs
 
 returns : tie.Need-returns
-returns c = let a = c .before .before .before .before .before .before .before .before .before .args in c .before .before .put-link2 .ensures ∙ ap (λ l. putLink l (a .at + 1) (a .v) (a .c) (a .w) (a .d)) (c .before .before .before .before .before .before .put-link .ensures)
+returns c = twice _ _ _ _ _ _ _ _ _ _ _ _ (c .before .before .before .before .before .before .put-link .ensures) (c .before .before .put-link2 .ensures)
 
 pub put-two-spec : {M : Type 1} → statement M
 put-two-spec =

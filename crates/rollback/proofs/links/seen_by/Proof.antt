@@ -1,6 +1,5 @@
 -- `rollback::links::seen_by` meets its contract.
 use Rattle.rollback.proofs.ArrivalReads.{seen-read}
-use Prim.Native.Nat.{_-_}
 use native.Mathlib.Omega.{arith}
 use Rattle.rollback.proofs.LinkWhole.{entry-upto, entry-low}
 use borrow.Author.Needs.{needs}

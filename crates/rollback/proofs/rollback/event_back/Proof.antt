@@ -1,5 +1,4 @@
 -- `rollback::rollback::event_back` meets its contract.
-use Prim.Native.Nat.{_-_}
 use native.Mathlib.Omega.{arith}
 use borrow.Author.Needs.{needs}
 use Rattle.rollback.proofs.RollbackCalls.{event-room, event-few, event-most, event-line, event-ready, event-back}

@@ -1,5 +1,4 @@
 -- `rollback::rollback::is_check` meets its contract.
-use Prim.Native.Nat.{_-_}
 use Rattle.reading.specs.Reads.{OfState, OfEntry}
 use Rattle.rollback.proofs.RollbackCalls.{is-check-no, is-check-same}
 use borrow.Author.Needs.{needs}

@@ -1,5 +1,4 @@
 -- `rollback::rollback::newest_check` meets its contract.
-use Prim.Native.Nat.{_-_}
 use native.Mathlib.Omega.{arith}
 use borrow.Author.Needs.{needs}
 use Rattle.reading.specs.Reads.{OfState}

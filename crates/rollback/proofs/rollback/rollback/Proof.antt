@@ -7,7 +7,6 @@ use Rattle.reading.specs.Reads.{OfState}
 use Rattle.reading.specs.declared.found.Found.{Found}
 use Rattle.reading.specs.declared.found.Found.the-variants.{At}
 use Rattle.rollback.specs.Going.{FindsCheck}
-use Prim.Native.Nat.{_-_}
 use Rattle.rollback.proofs.RollbackCalls.{call-elsewhere, call-away, call-without, call-back, call-place, call-happens}
 use borrow.Author.Needs.{needs}
 use Rattle.rollback.proofs.rollback.rollback.Statement.{statement}

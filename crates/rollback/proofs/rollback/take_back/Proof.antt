@@ -1,30 +1,33 @@
 -- `rollback::rollback::take_back` meets its contract.
-use Prim.Native.Nat.{_-_}
-use mathlib.Core.Path.{refl}
+use native.Mathlib.Omega.{arith}
 use borrow.Author.Needs.{needs}
+use Rattle.rollback.proofs.LinkWhole.{links-whole}
 use Rattle.rollback.proofs.rollback.take_back.Statement.{statement}
 use Rattle.rollback.proofs.rollback.take_back.Tie as tie
 
 levels-requires : tie.Need-levels-requires
 levels-requires c κs = search needs
 
-slice-aggregate-link-all : tie.Need-slice-aggregate-link-all
-slice-aggregate-link-all c = search needs
+slice-aggregate-collect : tie.Need-slice-aggregate-collect
+slice-aggregate-collect c = search needs
 
-link-all-requires : tie.Need-link-all-requires
-link-all-requires c κs = (c .before .before .before .before .before .pre .0, refl)
+collect-requires : tie.Need-collect-requires
+collect-requires c κs = (c .before .before .before .before .before .pre .0, omega arith)
 
-slice-aggregate-aim-all : tie.Need-slice-aggregate-aim-all
-slice-aggregate-aim-all c = search needs
+slice-aggregate-collect-2 : tie.Need-slice-aggregate-collect-2
+slice-aggregate-collect-2 c = search needs
 
-aim-all-requires : tie.Need-aim-all-requires
-aim-all-requires c κs = (c .before .before .before .before .before .before .before .before .before .pre .0, search needs, c .before .before .before .link-all .ensures .0, c .before .before .before .link-all .ensures .1)
+collect-requires-2 : tie.Need-collect-requires-2
+collect-requires-2 c κs = let u = c .before .before .before .collect .ensures in (c .before .before .before .before .before .before .before .before .before .pre .0, omega (arith, u .high, u .long))
 
 slice-aggregate-event-back : tie.Need-slice-aggregate-event-back
 slice-aggregate-event-back c = search needs
 
 event-back-requires : tie.Need-event-back-requires
-event-back-requires c κs = (c .before .before .before .before .before .before .before .before .before .before .before .before .before .pre .0, c .before .before .before .aim-all .ensures, c .before .before .before .before .before .before .before .before .before .before .levels .ensures, c .before .before .before .before .before .before .before .before .before .before .before .before .before .pre .1)
+event-back-requires c κs =
+    let u = c .before .before .before .before .before .before .before .collect .ensures in
+    let v = c .before .before .before .collect2 .ensures in
+    (c .before .before .before .before .before .before .before .before .before .before .before .before .before .pre .0, links-whole _ _ _ _ _ _ _ _ u v (omega (arith, u .high, u .long, v .high, v .long)), c .before .before .before .before .before .before .before .before .before .before .levels .ensures, c .before .before .before .before .before .before .before .before .before .before .before .before .before .pre .1)
 
 same-length : tie.Need-same-length
 same-length c = search needs
@@ -37,10 +40,10 @@ take-back-spec =
     tie.close
     (tie.spec
     levels-requires
-    slice-aggregate-link-all
-    link-all-requires
-    slice-aggregate-aim-all
-    aim-all-requires
+    slice-aggregate-collect
+    collect-requires
+    slice-aggregate-collect-2
+    collect-requires-2
     slice-aggregate-event-back
     event-back-requires
     same-length

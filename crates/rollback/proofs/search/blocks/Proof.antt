@@ -1,5 +1,4 @@
 -- `rollback::search::blocks` meets its contract.
-use Prim.Native.Nat.{_-_}
 use Rattle.rollback.proofs.LinkTests.{blocks-not-line, blocks-not-index, blocks-not}
 use borrow.Author.Needs.{needs}
 use Rattle.rollback.proofs.search.blocks.Statement.{statement}

@@ -1,5 +1,4 @@
 -- `rollback::search::free` meets its contract.
-use Prim.Native.Nat.{_-_}
 use Rattle.rollback.proofs.LinkTests.{free-not, free-not-blocked, free-yes}
 use borrow.Author.Needs.{needs}
 use Rattle.rollback.proofs.search.free.Statement.{statement}

@@ -2,6 +2,7 @@
 use Prim.Native.Nat.{ℕ, _-_, _≤_, _<_}
 use native.Mathlib.Omega.{arith}
 use borrow.Author.Needs.{needs}
+use Rattle.rollback.specs.Bounds.{lineCount}
 use Rattle.rollback.specs.Going.{Free}
 use Rattle.rollback.proofs.LinkTests.{one-more, free-here, free-nowhere}
 use Rattle.rollback.proofs.search.next_line.Statement.{statement}
@@ -9,10 +10,10 @@ use Rattle.rollback.proofs.search.next_line.Tie as tie
 
 abbrev Inv-loop : tie.InvT-loop
 Inv-loop links count cut level x₀ x =
-    (x ≤ 32) × ((j : ℕ) → j < x → ¬ Free links count cut level j)
+    (x ≤ lineCount) × ((j : ℕ) → j < x → ¬ Free links count cut level j)
 
 abbrev μ-loop : tie.MeasureT-loop
-μ-loop links count cut level x₀ x = 32 - x
+μ-loop links count cut level x₀ x = lineCount - x
 
 loop-holds : tie.Need-loop-holds Inv-loop μ-loop
 loop-holds c = (omega arith, λ j h. absurd (omega arith))

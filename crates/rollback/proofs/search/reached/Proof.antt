@@ -6,13 +6,14 @@ use borrow.Author.Needs.{needs}
 use Rattle.rollback.proofs.LinkTests.{reached-not, reached-on, reached-yes}
 use Rattle.rollback.proofs.search.reached.Statement.{statement}
 use Rattle.rollback.proofs.search.reached.Tie as tie
+use Rattle.rollback.specs.Bounds.{lineCount}
 
 abbrev Inv-loop : tie.InvT-loop
 Inv-loop cut level x₀ x =
-    (x ≤ 32) × ((j : ℕ) → j < x → getD level j 0 ≤ getD cut j 0)
+    (x ≤ lineCount) × ((j : ℕ) → j < x → getD level j 0 ≤ getD cut j 0)
 
 abbrev μ-loop : tie.MeasureT-loop
-μ-loop cut level x₀ x = 32 - x
+μ-loop cut level x₀ x = lineCount - x
 
 loop-holds : tie.Need-loop-holds Inv-loop μ-loop
 loop-holds c = (omega arith, λ j h. absurd (omega arith))

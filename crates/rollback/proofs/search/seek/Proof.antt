@@ -1,6 +1,7 @@
 -- `rollback::search::seek` meets its contract.
 use mathlib.Core.Path.{subst, _≡_, _∙_}
 use Rattle.reading.specs.declared.found.Found.the-variants.{At}
+use Rattle.rollback.specs.Bounds.{lineCount}
 use Rattle.rollback.specs.Going.{Free, FindsFree, Reached}
 use Prim.Native.Nat.{_+_, _-_}
 use native.Mathlib.Omega.{arith}
@@ -13,7 +14,7 @@ use Rattle.rollback.proofs.search.seek.Tie as tie
 
 abbrev Inv-loop : tie.InvT-loop
 Inv-loop links count cut level₀ n₀ level n =
-    (length level ≡ 32) × (n + sumOf level ≡ sumOf level₀) × Sought links count cut level₀ level n
+    (length level ≡ lineCount) × (n + sumOf level ≡ sumOf level₀) × Sought links count cut level₀ level n
 
 abbrev μ-loop : tie.MeasureT-loop
 μ-loop links count cut level₀ n₀ level n = sumOf level

@@ -1,0 +1,35 @@
+-- How many numbers a rollback goes by, at most. 01: "P process places, 1 to 16; H history entries for each process, 1 to 64". Assumes
+-- nothing: these are definitions.
+use Prim.Native.Nat.{ℕ, _+_, _*_}
+
+abbrev pub mostPlaces : ℕ
+mostPlaces = 16
+
+abbrev pub mostEntries : ℕ
+mostEntries = 64
+
+-- a place has two lines of events: its entries, and the deliveries to it
+abbrev pub lineCount : ℕ
+lineCount = 2 * mostPlaces
+
+-- an entry has at most two links of a sort: a rec with the arrivals before and after it, a spawn with its child's first events
+abbrev pub linksEach : ℕ
+linksEach = 2
+
+abbrev pub linksOfPlace : ℕ
+linksOfPlace = mostEntries * linksEach
+
+abbrev pub linksOfSort : ℕ
+linksOfSort = mostPlaces * linksOfPlace
+
+-- a queue holds no more messages than there are entries that could have sent them
+abbrev pub mostQueued : ℕ
+mostQueued = mostPlaces * mostEntries
+
+-- and the recs of a place took one each
+abbrev pub mostCome : ℕ
+mostCome = mostQueued + mostEntries
+
+-- no line has more events than that
+abbrev pub mostEvents : ℕ
+mostEvents = lineCount * mostCome
