@@ -1,2 +1,4 @@
+pub mod Conversation
 pub mod Exports
+pub mod Prints
 pub mod Replied

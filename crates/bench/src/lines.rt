@@ -12,12 +12,14 @@ use text::parsing::Line;
 use text::parsing::parse_line;
 use text::replies::write_answer;
 use text::replies::write_undone;
+ghost use Prim.Native.Nat.{_≤_};
 ghost use mathlib.Core.Path.{_≡_};
+ghost use lib.ListN.{length};
 ghost use Rattle.text.specs.Requests.{requestOf};
 ghost use Rattle.text.specs.Written.{Wrote};
 ghost use Rattle.calls.specs.Calls.{outcome, AskedCall};
 ghost use Rattle.calls.specs.Numbers.{numberOf, valueOf, TextCall};
-ghost use Rattle.bench.specs.Replied.{rollsBack, replyText, Replied};
+ghost use Rattle.bench.specs.Replied.{rollsBack, replyText, replyRoom, Replied};
 
 // What a line asks for.
 fn perform(store: &mut [u32], asked: Line) -> Answer
@@ -59,6 +61,7 @@ fn is_rollback(asked: Line) -> bool
 // The lines for an answer: its number, and the count of an accepted rollback.
 fn write_reply(out: &mut [u8], asked: Line, a: Answer) -> usize
     ensures { λ r. ⌜ Wrote (replyText (requestOf asked) a) 0 (now (out .entry)) (now (out .exit)) r ⌝ }
+    ensures { λ r. ⌜ length (replyText (requestOf asked) a) ≤ replyRoom ⌝ }
 {
     let n = number(a);
     let to = write_answer(out, 0, n);

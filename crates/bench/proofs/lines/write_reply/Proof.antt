@@ -36,7 +36,7 @@ same-length-3 : tie.Need-same-length-3
 same-length-3 c = search needs
 
 returns-3 : tie.Need-returns-3
-returns-3 c = wrote-count _ _ _ (c .before .before .before .before .before .before .before .before .before .before .before .before .number .ensures) _ _ (c .before .before .before .before .before .before .before .is-rollback .ensures) _ _ _ _ _ (not-false _ (c .before .before .before .before .before .before .if1 .left)) (c .before .before .before .before .before .if2 .left) (c .before .before .before .value .ensures) (c .before .before .before .before .before .before .before .before .before .before .write-answer .ensures) (c .before .before .write-undone .ensures)
+returns-3 c = wrote-count _ _ _ (c .before .before .before .before .before .before .before .before .before .before .before .before .number .ensures) _ _ (c .before .before .before .before .before .before .before .is-rollback .ensures) _ _ _ _ _ (not-false _ (c .before .before .before .before .before .before .if1 .left)) (c .before .before .before .before .before .if2 .left) (c .before .before .before .value .ensures) (search needs) (c .before .before .before .before .before .before .before .before .before .before .write-answer .ensures) (c .before .before .write-undone .ensures)
 
 pub write-reply-spec : {M : Type 1} → statement M
 write-reply-spec =
