@@ -6,3 +6,5 @@ pub mod ReplyRoom
 pub mod AfterRequest
 pub mod PrintsLaws
 pub mod Conversation
+pub mod InputLaws
+pub mod Program

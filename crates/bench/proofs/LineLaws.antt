@@ -115,31 +115,31 @@ module _ (request : Option Request) (a : Answer) where
   unfolding undoneBy
   rolled-undone e z = rw (e, eqb-of (numberOf a) done z, undoneBy) refl
 
-module _ (request : Option Request) (a : Answer) (n : ℕ) (number : n ≡ numberOf a) (old : List ℕ) where
+module _ (request : Option Request) (a : Answer) (n : ℕ) (number : n ≡ numberOf a) (at : ℕ) (old : List ℕ) where
   -- a reply, and that it is no longer than the room for one
   abbrev Said : List ℕ → ℕ → Type 0
-  Said new end = Wrote (replyText request a) 0 old new end × (length (replyText request a) ≤ replyRoom)
+  Said new end = Wrote (replyText request a) at old new end × (length (replyText request a) ≤ replyRoom)
 
-  plain : (new : List ℕ) (to : ℕ) → undoneBy request a ≡ none → Wrote (answerLine n) 0 old new to → Said new to
+  plain : (new : List ℕ) (to : ℕ) → undoneBy request a ≡ none → Wrote (answerLine n) at old new to → Said new to
   unfolding replyText undoneLine
   plain new to u w = (rw (u, undoneLine, append-nil (answerLine (numberOf a))) (rw number at w), reply-short request a none u tt)
 
-  pub wrote-refused : (new : List ℕ) (to : ℕ) → ¬ (n ≡ 0) → Wrote (answerLine n) 0 old new to → Said new to
+  pub wrote-refused : (new : List ℕ) (to : ℕ) → ¬ (n ≡ 0) → Wrote (answerLine n) at old new to → Said new to
   wrote-refused new to e w = plain new to (refused-undone request a (λ z. e (number ∙ z))) w
 
   module _ (b : Bool) (rolls : b ≡ rollsBack request) where
-    pub wrote-number : (new : List ℕ) (to : ℕ) → b ≡ false → Wrote (answerLine n) 0 old new to → Said new to
+    pub wrote-number : (new : List ℕ) (to : ℕ) → b ≡ false → Wrote (answerLine n) at old new to → Said new to
     wrote-number new to e w = plain new to (single-undone request a (sym rolls ∙ e)) w
 
-    pub wrote-count : (mid new : List ℕ) (to end count : ℕ) → b ≡ true → n ≡ 0 → count ≡ valueOf a → count < valuePlace → Wrote (answerLine n) 0 old mid to → Wrote (undoneLine (some count)) to mid new end → Said new end
+    pub wrote-count : (mid new : List ℕ) (to end count : ℕ) → b ≡ true → n ≡ 0 → count ≡ valueOf a → count < valuePlace → Wrote (answerLine n) at old mid to → Wrote (undoneLine (some count)) to mid new end → Said new end
     unfolding replyText
     wrote-count mid new to end count e z c small w v =
         let u : undoneBy request a ≡ some count = rolled-undone request a (sym rolls ∙ e) (sym number ∙ z) ∙ ap some (sym c) in
         (rw (u, ← number) (wrote-then w v), reply-short request a (some count) u small)
 
-pub replied : (text entry exit old new : List ℕ) (end : ℕ) (asked : Line) (a : Answer) → requestOf asked ≡ parseLine text → AskedCall (requestOf asked) entry (outcome (numberOf a) (valueOf a) exit)
-    → Wrote (replyText (requestOf asked) a) 0 old new end → length (replyText (requestOf asked) a) ≤ replyRoom → Replied text entry exit old new end
-replied text entry exit old new end asked a e c w f = record { answer = a; call = asked-line asked entry exit a text e c; text = rw e at w; fits = rw e at f }
+pub replied : (text entry exit old new : List ℕ) (at end : ℕ) (asked : Line) (a : Answer) → requestOf asked ≡ parseLine text → AskedCall (requestOf asked) entry (outcome (numberOf a) (valueOf a) exit)
+    → Wrote (replyText (requestOf asked) a) at old new end → length (replyText (requestOf asked) a) ≤ replyRoom → Replied text entry exit at old new end
+replied text entry exit old new at end asked a e c w f = record { answer = a; call = asked-line asked entry exit a text e c; text = rw e at w; fits = rw e at f }
 
 -- A line of which only the first bytes are kept, more than any good line has, asks for what the whole line asks for.
 pub cut-line : (line : List ℕ) (n : ℕ) → 16 < n → parseLine (take n line) ≡ parseLine line

@@ -28,10 +28,9 @@ use Rattle.store.specs.Loading as loading
 use Rattle.calls.specs.Calls.{outcome, countIn, stored, RequestCall, AskedCall, LineCall, written, ListingCall, LoadCall}
 use Rattle.calls.specs.Numbers.{numberOf, valueOf, TextCall, Lists}
 use Rattle.calls.specs.declared.answers.Answer.{Answer}
-use Rattle.bench.specs.Replied.{rollsBack, undoneBy, replyText, replyRoom, Replied}
+use Rattle.bench.specs.Replied.{rollsBack, undoneBy, replyText, Replied}
 use Rattle.bench.specs.Prints.{Prints}
 use Rattle.bench.proofs.LineLaws.{single-undone, refused-undone, rolled-undone}
-use Rattle.bench.proofs.ReplyRoom.{text-taken}
 use Rattle.bench.proofs.AfterRequest.{sound-after, plan-undone, NotDone, rollback-not-done}
 
 -- ---- what the rules reply to a line
@@ -112,17 +111,13 @@ module _ (line : List ℕ) (lines : List (List ℕ)) (a : Answer) (entry exit te
       (λ i. r i ++ p .elsewhere (subst (λ (x : List ℕ). ¬ IsImage x) (sym l) empty) i) ∙ sym (without-some line lines request e)
 
 -- a reply, and then what is printed for the lines that follow
-pub reply-prints : (line entry exit old new : List ℕ) (end : ℕ) → Replied line entry exit old new end → replyRoom ≤ length old
-    → (lines : List (List ℕ)) (text : List ℕ) → Prints exit lines text → Prints entry (line ∷ lines) (take end new ++ text)
+pub reply-prints : (line entry exit old new : List ℕ) (at end : ℕ) (r : Replied line entry exit at old new end) (lines : List (List ℕ)) (text : List ℕ)
+    → Prints exit lines text → Prints entry (line ∷ lines) (replyText (parseLine line) (r .answer) ++ text)
 unfolding TextCall LineCall
-reply-prints line entry exit old new end r room lines text p =
-    let f = r .fits in
-    let (e, t) = text-taken (r .text) (omega arith) in
-    let same : take end new ++ text ≡ replyText (parseLine line) (r .answer) ++ text = ap (λ (x : List ℕ). x ++ text) t in
-    record {
-      on-image = λ s rest sound at. same ∙ said-on line lines (r .answer) entry exit text (parseLine line) refl (r .call) p s rest sound at;
-      elsewhere = λ empty. same ∙ said-elsewhere line lines (r .answer) entry exit text (parseLine line) refl (r .call) p empty;
-    }
+reply-prints line entry exit old new at end r lines text p = record {
+  on-image = λ s rest sound at. said-on line lines (r .answer) entry exit text (parseLine line) refl (r .call) p s rest sound at;
+  elsewhere = λ empty. said-elsewhere line lines (r .answer) entry exit text (parseLine line) refl (r .call) p empty;
+}
 
 -- ---- the listing
 

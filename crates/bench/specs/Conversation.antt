@@ -25,7 +25,7 @@ pub record Answered (line entry exit said : List ℕ) : Type 0 where
   pub old : List ℕ
   pub new : List ℕ
   pub end : ℕ
-  pub replied : Replied line entry exit old new end
+  pub replied : Replied line entry exit 0 old new end
   pub room : replyRoom ≤ length old
   pub said-is : said ≡ take end new
 

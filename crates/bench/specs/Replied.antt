@@ -28,9 +28,9 @@ replyText request a = answerLine (numberOf a) ++ undoneLine (undoneBy request a)
 abbrev pub replyRoom : ℕ
 replyRoom = 32
 
--- the line is performed, and its answer stands in the output from its start, as far as it reaches
-pub record Replied (line entry exit old new : List ℕ) (end : ℕ) : Type 0 where
+-- the line is performed, and its answer stands in the output from a position on, as far as it reaches
+pub record Replied (line entry exit : List ℕ) (at : ℕ) (old new : List ℕ) (end : ℕ) : Type 0 where
   pub answer : Answer
   pub call : TextCall line entry exit answer
-  pub text : Wrote (replyText (parseLine line) answer) 0 old new end
+  pub text : Wrote (replyText (parseLine line) answer) at old new end
   pub fits : length (replyText (parseLine line) answer) ≤ replyRoom
