@@ -125,7 +125,7 @@ kept-full line count b h g = record {
   same = refl;
   kept =
       let all : take (length line) (take count line ++ (b ∷ [])) ≡ take (length line) line =
-          ap (λ (l : List ℕ). take (length line) (l ++ (b ∷ []))) (take-all count line g) ∙ take-append-le (length line) line (b ∷ []) (omega arith) in
+      ap (λ (l : List ℕ). take (length line) (l ++ (b ∷ []))) (take-all count line g) ∙ take-append-le (length line) line (b ∷ []) (omega arith) in
       let same : count ≡ length line = omega arith in
       ap (λ (n : ℕ). take n line) same ∙ sym all;
 }

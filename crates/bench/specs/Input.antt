@@ -3,16 +3,18 @@
 use Prim.Native.Nat.{ℕ, _*_, _≤_}
 use mathlib.Core.Path.{_≡_}
 use mathlib.Core.List.{List, [], _∷_, _++_}
-use lib.ListN.{length, take}
+use lib.ListN.{length, take, replicate}
 use Rattle.rules.specs.Text.{lineFeed}
 use Rattle.rules.specs.State.{Sizes}
 use Rattle.rules.specs.Line.{split, withoutEmptyLast}
 use Rattle.rules.specs.Bench.{bench}
+use Rattle.rules.specs.Cases.{benchSizes}
 use Rattle.text.specs.Written.{Wrote}
 use Rattle.store.specs.Layout.{needed}
-use Rattle.store.specs.Image.{IsImage}
+use Rattle.store.specs.Image.{IsImage, benchStore}
 use Rattle.store.specs.Loading.{Outcome}
 use Rattle.calls.specs.Calls.{LoadCall}
+use Rattle.calls.specs.Promises.{benchModule}
 use Rattle.bench.specs.Replied.{replyRoom}
 use Rattle.bench.specs.Prints.{Prints}
 use Rattle.bench.specs.Conversation.{Listed}
@@ -68,8 +70,11 @@ pub record Program (entry input printed : List ℕ) : Type 0 where
   pub listed : Listed exit listing-said
   pub printed-is : printed ≡ blocks-said ++ (take end new ++ listing-said)
 
--- after a load, in a store that is long enough and held no state, that is 01's program
 pub record ProgramOfBlocks : Type 0 where
+  -- after a load, in a store that is long enough and held no state, that is 01's program
   pub program : (module′ : List ℕ) (sizes : Sizes) (entry input : List ℕ) (o : Outcome) (printed : List ℕ)
       → needed sizes ≤ length entry → ¬ IsImage entry → LoadCall module′ sizes entry o → Program (o .left) input printed
       → printed ≡ bench module′ (sizes .places) (sizes .entries) (sizes .words) input
+  -- and with its own module and sizes and "a store of 10,816 words, zero at start"
+  pub own : (input : List ℕ) (o : Outcome) (printed : List ℕ) → LoadCall benchModule benchSizes (replicate benchStore 0) o → Program (o .left) input printed
+      → printed ≡ bench benchModule 4 16 64 input

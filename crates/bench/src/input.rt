@@ -9,8 +9,8 @@ ghost use Rattle.bench.specs.Input.{Kept, Took, Ended};
 
 // How many bytes stand of a line that has not ended, and where the output ends.
 pub struct Heard {
-    count: usize,
-    end: usize,
+    pub count: usize,
+    pub end: usize,
 }
 
 // One byte more of a line. Of a line that is longer than any good one only the first bytes are kept: it is malformed whatever follows.
@@ -26,7 +26,14 @@ pub fn keep(line: &mut [u8], count: usize, b: u8) -> usize
 }
 
 // One byte of the input, after so many of its line.
-fn take_byte(store: &mut [u32], line: &mut [u8], count: usize, b: u8, out: &mut [u8], at: usize) -> Heard
+fn take_byte(
+    store: &mut [u32],
+    line: &mut [u8],
+    pub count: usize,
+    b: u8,
+    out: &mut [u8],
+    at: usize,
+) -> Heard
     requires { ⌜ count ≤ length (now line) ⌝ }
     requires { ⌜ 16 < length (now line) ⌝ }
     ensures { λ r. ⌜ r .count ≤ length (now (line .entry)) ⌝ }
@@ -45,7 +52,13 @@ fn take_byte(store: &mut [u32], line: &mut [u8], count: usize, b: u8, out: &mut 
 }
 
 // A block of the input. The output has room for what is said if it has 32 bytes for each byte of the block.
-pub fn take_block(store: &mut [u32], line: &mut [u8], count: usize, block: &[u8], out: &mut [u8]) -> Heard
+pub fn take_block(
+    store: &mut [u32],
+    line: &mut [u8],
+    pub count: usize,
+    block: &[u8],
+    out: &mut [u8],
+) -> Heard
     requires { ⌜ count ≤ length (now line) ⌝ }
     requires { ⌜ 16 < length (now line) ⌝ }
     ensures { λ r. ⌜ r .count ≤ length (now (line .entry)) ⌝ }
