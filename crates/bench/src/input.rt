@@ -29,7 +29,7 @@ pub fn keep(line: &mut [u8], count: usize, b: u8) -> usize
 fn take_byte(
     store: &mut [u32],
     line: &mut [u8],
-    pub count: usize,
+    count: usize,
     b: u8,
     out: &mut [u8],
     at: usize,
@@ -55,7 +55,7 @@ fn take_byte(
 pub fn take_block(
     store: &mut [u32],
     line: &mut [u8],
-    pub count: usize,
+    count: usize,
     block: &[u8],
     out: &mut [u8],
 ) -> Heard
