@@ -2,3 +2,9 @@ pub mod Packed
 pub mod Positions
 pub mod LoadLaws
 pub mod LineLaws
+pub mod ReplyRoom
+pub mod AfterRequest
+pub mod PrintsLaws
+pub mod Conversation
+pub mod InputLaws
+pub mod Program

@@ -1,5 +1,5 @@
 -- Laws of text commands and of what is printed for them.
-use Prim.Native.Nat.{ℕ, _<_}
+use Prim.Native.Nat.{ℕ, _<_, _≤_}
 use mathlib.Core.Path.{_≡_, refl, sym, _∙_, ap}
 use mathlib.Core.Bool.{Bool, true, false, _&&_}
 use mathlib.Core.Option.{Option, none, some}
@@ -21,10 +21,11 @@ use Rattle.text.specs.declared.parsing.Line.the-variants.{Step, Spawn, Deliver,
 use Rattle.text.proofs.LongLines.{parse-long}
 use Rattle.text.proofs.WritingLaws.{wrote-then}
 use Rattle.calls.specs.Calls.{outcome, AskedCall, LineCall}
-use Rattle.calls.specs.Numbers.{numberOf, valueOf, Performs, CommandCall, RollbackCall, TextCall}
+use Rattle.calls.specs.Numbers.{numberOf, valueOf, Performs, CommandCall, RollbackCall, TextCall, valuePlace}
 use Rattle.calls.specs.declared.answers.Answer.{Answer}
 use Rattle.calls.specs.declared.answers.Answer.the-variants.{BadLine}
-use Rattle.bench.specs.Replied.{rollsBack, undoneBy, replyText, Replied}
+use Rattle.bench.specs.Replied.{rollsBack, undoneBy, replyText, replyRoom, Replied}
+use Rattle.bench.proofs.ReplyRoom.{reply-short}
 
 -- ---- what each line asks for
 
@@ -97,36 +98,48 @@ module _ (asked : Line) where
 
 -- ---- what is printed
 
-module _ (request : Option Request) (a : Answer) (n : ℕ) (number : n ≡ numberOf a) (old : List ℕ) where
-  none-undone : (b c : Bool) → rollsBack request ≡ b → eqb (numberOf a) done ≡ c → (b && c) ≡ false → undoneBy request a ≡ none
+module _ (request : Option Request) (a : Answer) where
+  pub single-undone : rollsBack request ≡ false → undoneBy request a ≡ none
   unfolding undoneBy
-  none-undone b c x y e = rw (x, y, e, undoneBy) refl
+  single-undone e = rw (e, undoneBy) refl
 
-  plain : (new : List ℕ) (to : ℕ) → undoneBy request a ≡ none → Wrote (answerLine n) 0 old new to → Wrote (replyText request a) 0 old new to
-  unfolding replyText undoneLine
-  plain new to u w = rw (u, undoneLine, append-nil (answerLine (numberOf a))) (rw number at w)
-
-  pub wrote-refused : (new : List ℕ) (to : ℕ) → ¬ (n ≡ 0) → Wrote (answerLine n) 0 old new to → Wrote (replyText request a) 0 old new to
-  wrote-refused new to e w =
-      plain new to (none-undone (rollsBack request) false refl (eqb-apart (numberOf a) done (λ z. e (number ∙ z))) (either (rollsBack request))) w
+  pub refused-undone : ¬ (numberOf a ≡ done) → undoneBy request a ≡ none
+  unfolding undoneBy
+  refused-undone e = rw (eqb-apart (numberOf a) done e, either (rollsBack request), undoneBy) refl
     where
       either : (b : Bool) → (b && false) ≡ false
       either true = refl
       either false = refl
 
+  pub rolled-undone : rollsBack request ≡ true → numberOf a ≡ done → undoneBy request a ≡ some (valueOf a)
+  unfolding undoneBy
+  rolled-undone e z = rw (e, eqb-of (numberOf a) done z, undoneBy) refl
+
+module _ (request : Option Request) (a : Answer) (n : ℕ) (number : n ≡ numberOf a) (at : ℕ) (old : List ℕ) where
+  -- a reply, and that it is no longer than the room for one
+  abbrev Said : List ℕ → ℕ → Type 0
+  Said new end = Wrote (replyText request a) at old new end × (length (replyText request a) ≤ replyRoom)
+
+  plain : (new : List ℕ) (to : ℕ) → undoneBy request a ≡ none → Wrote (answerLine n) at old new to → Said new to
+  unfolding replyText undoneLine
+  plain new to u w = (rw (u, undoneLine, append-nil (answerLine (numberOf a))) (rw number at w), reply-short request a none u tt)
+
+  pub wrote-refused : (new : List ℕ) (to : ℕ) → ¬ (n ≡ 0) → Wrote (answerLine n) at old new to → Said new to
+  wrote-refused new to e w = plain new to (refused-undone request a (λ z. e (number ∙ z))) w
+
   module _ (b : Bool) (rolls : b ≡ rollsBack request) where
-    pub wrote-number : (new : List ℕ) (to : ℕ) → b ≡ false → Wrote (answerLine n) 0 old new to → Wrote (replyText request a) 0 old new to
-    wrote-number new to e w = plain new to (none-undone false (eqb (numberOf a) done) (sym rolls ∙ e) refl refl) w
+    pub wrote-number : (new : List ℕ) (to : ℕ) → b ≡ false → Wrote (answerLine n) at old new to → Said new to
+    wrote-number new to e w = plain new to (single-undone request a (sym rolls ∙ e)) w
 
-    pub wrote-count : (mid new : List ℕ) (to end count : ℕ) → b ≡ true → n ≡ 0 → count ≡ valueOf a → Wrote (answerLine n) 0 old mid to → Wrote (undoneLine (some count)) to mid new end → Wrote (replyText request a) 0 old new end
-    unfolding replyText undoneBy
-    wrote-count mid new to end count e z c w v =
-        let u : undoneBy request a ≡ some count = rw (sym rolls ∙ e, eqb-of (numberOf a) done (sym number ∙ z), sym c, undoneBy) refl in
-        rw (u, ← number) (wrote-then w v)
+    pub wrote-count : (mid new : List ℕ) (to end count : ℕ) → b ≡ true → n ≡ 0 → count ≡ valueOf a → count < valuePlace → Wrote (answerLine n) at old mid to → Wrote (undoneLine (some count)) to mid new end → Said new end
+    unfolding replyText
+    wrote-count mid new to end count e z c small w v =
+        let u : undoneBy request a ≡ some count = rolled-undone request a (sym rolls ∙ e) (sym number ∙ z) ∙ ap some (sym c) in
+        (rw (u, ← number) (wrote-then w v), reply-short request a (some count) u small)
 
-pub replied : (text entry exit old new : List ℕ) (end : ℕ) (asked : Line) (a : Answer) → requestOf asked ≡ parseLine text → AskedCall (requestOf asked) entry (outcome (numberOf a) (valueOf a) exit)
-    → Wrote (replyText (requestOf asked) a) 0 old new end → Replied text entry exit old new end
-replied text entry exit old new end asked a e c w = record { answer = a; call = asked-line asked entry exit a text e c; text = rw e at w }
+pub replied : (text entry exit old new : List ℕ) (at end : ℕ) (asked : Line) (a : Answer) → requestOf asked ≡ parseLine text → AskedCall (requestOf asked) entry (outcome (numberOf a) (valueOf a) exit)
+    → Wrote (replyText (requestOf asked) a) at old new end → length (replyText (requestOf asked) a) ≤ replyRoom → Replied text entry exit at old new end
+replied text entry exit old new at end asked a e c w f = record { answer = a; call = asked-line asked entry exit a text e c; text = rw e at w; fits = rw e at f }
 
 -- A line of which only the first bytes are kept, more than any good line has, asks for what the whole line asks for.
 pub cut-line : (line : List ℕ) (n : ℕ) → 16 < n → parseLine (take n line) ≡ parseLine line

@@ -12,12 +12,14 @@ use text::parsing::Line;
 use text::parsing::parse_line;
 use text::replies::write_answer;
 use text::replies::write_undone;
+ghost use Prim.Native.Nat.{_≤_};
 ghost use mathlib.Core.Path.{_≡_};
+ghost use lib.ListN.{length};
 ghost use Rattle.text.specs.Requests.{requestOf};
 ghost use Rattle.text.specs.Written.{Wrote};
 ghost use Rattle.calls.specs.Calls.{outcome, AskedCall};
 ghost use Rattle.calls.specs.Numbers.{numberOf, valueOf, TextCall};
-ghost use Rattle.bench.specs.Replied.{rollsBack, replyText, Replied};
+ghost use Rattle.bench.specs.Replied.{rollsBack, replyText, replyRoom, Replied};
 
 // What a line asks for.
 fn perform(store: &mut [u32], asked: Line) -> Answer
@@ -57,11 +59,12 @@ fn is_rollback(asked: Line) -> bool
 }
 
 // The lines for an answer: its number, and the count of an accepted rollback.
-fn write_reply(out: &mut [u8], asked: Line, a: Answer) -> usize
-    ensures { λ r. ⌜ Wrote (replyText (requestOf asked) a) 0 (now (out .entry)) (now (out .exit)) r ⌝ }
+fn write_reply(out: &mut [u8], at: usize, asked: Line, a: Answer) -> usize
+    ensures { λ r. ⌜ Wrote (replyText (requestOf asked) a) at (now (out .entry)) (now (out .exit)) r ⌝ }
+    ensures { λ r. ⌜ length (replyText (requestOf asked) a) ≤ replyRoom ⌝ }
 {
     let n = number(a);
-    let to = write_answer(out, 0, n);
+    let to = write_answer(out, at, n);
     if !is_rollback(asked) {
         return to;
     }
@@ -71,11 +74,11 @@ fn write_reply(out: &mut [u8], asked: Line, a: Answer) -> usize
     write_undone(out, to, value(a))
 }
 
-// A text command with what is printed for it, from the start of the output.
-pub fn reply(store: &mut [u32], text: &[u8], out: &mut [u8]) -> usize
-    ensures { λ r. ⌜ Replied (now (text .entry)) (now (store .entry)) (now (store .exit)) (now (out .entry)) (now (out .exit)) r ⌝ }
+// A text command with what is printed for it, from a position of the output on.
+pub fn reply(store: &mut [u32], text: &[u8], out: &mut [u8], at: usize) -> usize
+    ensures { λ r. ⌜ Replied (now (text .entry)) (now (store .entry)) (now (store .exit)) at (now (out .entry)) (now (out .exit)) r ⌝ }
 {
     let asked = parse_line(text);
     let a = perform(store, asked);
-    write_reply(out, asked, a)
+    write_reply(out, at, asked, a)
 }

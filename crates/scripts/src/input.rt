@@ -1,9 +1,18 @@
-// A script read from standard input in blocks, line by line.
+// Standard input read in blocks, line by line: the commands of the program bench, or a script.
+use crate::printing::print;
 use crate::script::perform;
+use bench::input::keep;
+use bench::input::take_block;
 use libc::STDIN_FILENO;
 use text::keys::LINE_FEED;
-ghost use Prim.Native.Nat.{_≤_};
+ghost use Prim.Native.Nat.{_≤_, _<_};
 ghost use lib.ListN.{length};
+
+// What the lines of the input are.
+pub enum Lines {
+    Commands,
+    Script,
+}
 
 // What has been read of a line, and whether there may be more input.
 pub struct Turn {
@@ -11,7 +20,20 @@ pub struct Turn {
     more: bool,
 }
 
-// One byte of the input, after so many of its line.
+// A block of commands: what is said for the lines that end in it is printed.
+fn answer_block(store: &mut [u32], line: &mut [u8], count: usize, block: &[u8]) -> usize
+    requires { ⌜ count ≤ length (now line) ⌝ }
+    requires { ⌜ 16 < length (now line) ⌝ }
+    requires { ⌜ length (now block) ≤ 4096 ⌝ }
+    ensures { λ r. ⌜ r ≤ length (now (line .entry)) ⌝ }
+{
+    let mut out = [0u8; 131072];
+    let heard = take_block(store, line, count, block, &mut out);
+    print(&out, heard.end);
+    heard.count
+}
+
+// One byte of a script, after so many of its line.
 fn take_byte(store: &mut [u32], line: &mut [u8], count: usize, b: u8) -> usize
     requires { ⌜ count ≤ length (now line) ⌝ }
     ensures { λ r. ⌜ r ≤ length (now (line .entry)) ⌝ }
@@ -20,15 +42,11 @@ fn take_byte(store: &mut [u32], line: &mut [u8], count: usize, b: u8) -> usize
         perform(store, &line[..count]);
         return 0;
     }
-    if line.len() <= count {
-        return count;
-    }
-    line[count] = b;
-    count + 1
+    keep(line, count, b)
 }
 
-// A block of the input.
-fn take_block(store: &mut [u32], line: &mut [u8], count: usize, block: &[u8]) -> usize
+// A block of a script.
+fn perform_block(store: &mut [u32], line: &mut [u8], count: usize, block: &[u8]) -> usize
     requires { ⌜ count ≤ length (now line) ⌝ }
     ensures { λ r. ⌜ r ≤ length (now (line .entry)) ⌝ }
 {
@@ -41,9 +59,23 @@ fn take_block(store: &mut [u32], line: &mut [u8], count: usize, block: &[u8]) ->
     n
 }
 
-// Reads once, and performs the lines that end in what came.
-fn read_some(store: &mut [u32], line: &mut [u8], count: usize) -> Turn
+// A block of the input.
+fn hear(lines: Lines, store: &mut [u32], line: &mut [u8], count: usize, block: &[u8]) -> usize
     requires { ⌜ count ≤ length (now line) ⌝ }
+    requires { ⌜ 16 < length (now line) ⌝ }
+    requires { ⌜ length (now block) ≤ 4096 ⌝ }
+    ensures { λ r. ⌜ r ≤ length (now (line .entry)) ⌝ }
+{
+    match lines {
+        Lines::Commands => answer_block(store, line, count, block),
+        Lines::Script => perform_block(store, line, count, block),
+    }
+}
+
+// Reads once, and performs the lines that end in what came.
+fn read_some(lines: Lines, store: &mut [u32], line: &mut [u8], count: usize) -> Turn
+    requires { ⌜ count ≤ length (now line) ⌝ }
+    requires { ⌜ 16 < length (now line) ⌝ }
     ensures { λ r. ⌜ r .count ≤ length (now (line .entry)) ⌝ }
 {
     let mut block = io::buffer();
@@ -56,13 +88,17 @@ fn read_some(store: &mut [u32], line: &mut [u8], count: usize) -> Turn
     }
     let n = io::count(got, &block);
     Turn {
-        count: take_block(store, line, count, &block[..n]),
+        count: hear(lines, store, line, count, &block[..n]),
         more: true,
     }
 }
 
-// Reads to the end of the input; nothing says that it ends, so turns are counted down from a number that no run uses up.
-fn read_all(store: &mut [u32], line: &mut [u8]) {
+// Reads to the end of the input; nothing says that it ends, so turns are counted down from a number that no run uses up. The answer is how
+// many bytes stand in a last line with no LF.
+pub fn read_all(lines: Lines, store: &mut [u32], line: &mut [u8]) -> usize
+    requires { ⌜ 16 < length (now line) ⌝ }
+    ensures { λ r. ⌜ r ≤ length (now (line .entry)) ⌝ }
+{
     let mut turn = Turn {
         count: 0,
         more: true,
@@ -70,14 +106,15 @@ fn read_all(store: &mut [u32], line: &mut [u8]) {
     let mut turns = u64::MAX;
     while turns > 0 && turn.more {
         let count = turn.count;
-        turn = read_some(store, line, count);
+        turn = read_some(lines, store, line, count);
         turns -= 1;
     }
+    turn.count
 }
 
-// Runs the whole script.
+// Runs a whole script.
 pub fn run() {
     let mut store = [0u32; 131072];
     let mut line = [0u8; 8192];
-    read_all(&mut store, &mut line);
+    read_all(Lines::Script, &mut store, &mut line);
 }

@@ -1,16 +1,16 @@
 // One line of a script.
-use bench::lines::reply;
+use crate::printing::list;
+use crate::printing::print_listing;
+use crate::printing::print_number;
+use crate::printing::print_reply;
 use calls::answers::Answer;
 use calls::answers::number;
-use libc::STDOUT_FILENO;
-use listing::listing::listing;
 use store::load::Loaded;
 use store::load::load;
 use text::keys::ANSWER;
 use text::parsing::Number;
 use text::parsing::begins;
 use text::parsing::read_number;
-use text::replies::write_number_line;
 
 // The keys of lines that are no commands of the bench.
 const LOAD: [u8; 5] = *b"load=";
@@ -20,6 +20,8 @@ const LIST: [u8; 4] = *b"list";
 const SHORT: [u8; 6] = *b"short=";
 
 const CLEAR: [u8; 5] = *b"clear";
+
+const ALTER: [u8; 6] = *b"alter=";
 
 // What begins the line of a bad module's position.
 const POSITION: [u8; 9] = *b"position=";
@@ -64,15 +66,6 @@ fn read_words(text: &[u8], words: &mut [u32]) -> usize {
     n
 }
 
-// Prints a key and a number.
-fn print_number(key: &[u8], n: u32) {
-    let mut out = [0u8; 32];
-    let end = write_number_line(&mut out, 0, key, n);
-    if end <= 32 {
-        io::write_all(STDOUT_FILENO, &out[..end]);
-    }
-}
-
 // 01's number of what a load answered.
 fn load_number(loaded: Loaded) -> u32 {
     match loaded {
@@ -105,22 +98,11 @@ fn load_line(store: &mut [u32], text: &[u8]) {
     }
 }
 
-// Prints the listing in an output, or its refusal.
-fn list_in(store: &[u32], out: &mut [u8]) {
-    let a = listing(store, out);
-    let Answer::Done(length) = a else {
+// Prints a refusal of the listing.
+fn refused(a: Answer) {
+    if number(a) != 0 {
         print_number(&ANSWER, number(a));
-        return;
-    };
-    let end = length as usize;
-    if end <= out.len() {
-        io::write_all(STDOUT_FILENO, &out[..end]);
     }
-}
-
-fn list_line(store: &[u32]) {
-    let mut out = io::large_buffer();
-    list_in(store, &mut out);
 }
 
 fn short_line(store: &[u32], text: &[u8]) {
@@ -130,7 +112,7 @@ fn short_line(store: &[u32], text: &[u8]) {
     };
     let end = n as usize;
     if end <= 256 {
-        list_in(store, &mut out[..end]);
+        refused(print_listing(store, &mut out[..end]));
     }
 }
 
@@ -142,11 +124,13 @@ fn clear(store: &mut [u32]) {
     }
 }
 
-fn command(store: &mut [u32], text: &[u8]) {
-    let mut out = [0u8; 32];
-    let end = reply(store, text, &mut out);
-    if end <= 32 {
-        io::write_all(STDOUT_FILENO, &out[..end]);
+// Makes one word of the store another.
+fn alter_line(store: &mut [u32], text: &[u8]) {
+    let mut words = [0u32; 2];
+    read_words(text, &mut words);
+    let at = words[0] as usize;
+    if at < store.len() {
+        store[at] = words[1];
     }
 }
 
@@ -157,7 +141,7 @@ pub fn perform(store: &mut [u32], text: &[u8]) {
         return;
     }
     if begins(text, &LIST) {
-        list_line(store);
+        refused(list(store));
         return;
     }
     if begins(text, &SHORT) {
@@ -168,5 +152,9 @@ pub fn perform(store: &mut [u32], text: &[u8]) {
         clear(store);
         return;
     }
-    command(store, text);
+    if begins(text, &ALTER) {
+        alter_line(store, &text[ALTER.len()..]);
+        return;
+    }
+    print_reply(store, text);
 }

@@ -20,7 +20,7 @@ same-length-2 : tie.Need-same-length-2
 same-length-2 c = search needs
 
 returns : tie.Need-returns
-returns c = replied _ _ _ _ _ _ _ _ (c .before .before .before .before .before .before .before .before .parse-line .ensures) (c .before .before .before .before .before .before .perform .ensures) (c .before .before .write-reply .ensures)
+returns c = replied _ _ _ _ _ _ _ _ _ (c .before .before .before .before .before .before .before .before .parse-line .ensures) (c .before .before .before .before .before .before .perform .ensures) (c .before .before .write-reply .ensures .0) (c .before .before .write-reply .ensures .1)
 
 pub reply-spec : {M : Type 1} → statement M
 reply-spec =

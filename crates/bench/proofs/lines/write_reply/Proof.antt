@@ -18,13 +18,13 @@ same-length : tie.Need-same-length
 same-length c = search needs
 
 returns : tie.Need-returns
-returns c = wrote-number _ _ _ (c .before .before .before .before .before .before .number .ensures) _ _ (c .before .is-rollback .ensures) _ _ (not-true _ (c .if1 .taken)) (c .before .before .before .before .write-answer .ensures)
+returns c = wrote-number _ _ _ (c .before .before .before .before .before .before .number .ensures) _ _ _ (c .before .is-rollback .ensures) _ _ (not-true _ (c .if1 .taken)) (c .before .before .before .before .write-answer .ensures)
 
 same-length-2 : tie.Need-same-length-2
 same-length-2 c = search needs
 
 returns-2 : tie.Need-returns-2
-returns-2 c = wrote-refused _ _ _ (c .before .before .before .before .before .before .before .number .ensures) _ _ _ (c .if2 .taken) (c .before .before .before .before .before .write-answer .ensures)
+returns-2 c = wrote-refused _ _ _ (c .before .before .before .before .before .before .before .number .ensures) _ _ _ _ (c .if2 .taken) (c .before .before .before .before .before .write-answer .ensures)
 
 value-requires : tie.Need-value-requires
 value-requires c κs = search needs
@@ -36,7 +36,7 @@ same-length-3 : tie.Need-same-length-3
 same-length-3 c = search needs
 
 returns-3 : tie.Need-returns-3
-returns-3 c = wrote-count _ _ _ (c .before .before .before .before .before .before .before .before .before .before .before .before .number .ensures) _ _ (c .before .before .before .before .before .before .before .is-rollback .ensures) _ _ _ _ _ (not-false _ (c .before .before .before .before .before .before .if1 .left)) (c .before .before .before .before .before .if2 .left) (c .before .before .before .value .ensures) (c .before .before .before .before .before .before .before .before .before .before .write-answer .ensures) (c .before .before .write-undone .ensures)
+returns-3 c = wrote-count _ _ _ (c .before .before .before .before .before .before .before .before .before .before .before .before .number .ensures) _ _ _ (c .before .before .before .before .before .before .before .is-rollback .ensures) _ _ _ _ _ (not-false _ (c .before .before .before .before .before .before .if1 .left)) (c .before .before .before .before .before .if2 .left) (c .before .before .before .value .ensures) (search needs) (c .before .before .before .before .before .before .before .before .before .before .write-answer .ensures) (c .before .before .write-undone .ensures)
 
 pub write-reply-spec : {M : Type 1} → statement M
 write-reply-spec =

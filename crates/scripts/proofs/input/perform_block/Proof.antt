@@ -1,10 +1,10 @@
--- `take_block` meets its contract.
+-- `perform_block` meets its contract.
 use borrow.Author.Needs.{needs}
 use mathlib.Core.Path.{_≡_}
 use Prim.Native.Nat.{_≤_, _-_}
 use lib.ListN.{length}
-use Rattle.scripts.proofs.input.take_block.Statement.{statement}
-use Rattle.scripts.proofs.input.take_block.Tie as tie
+use Rattle.scripts.proofs.input.perform_block.Statement.{statement}
+use Rattle.scripts.proofs.input.perform_block.Tie as tie
 
 abbrev Inv-loop : tie.InvT-loop
 Inv-loop store₀ line₀ count block n₀ i₀ store line n i = (length store ≡ length store₀) × (length line ≡ length line₀) × (n ≤ length line₀)
@@ -39,8 +39,8 @@ same-length-2 c = search needs
 returns : tie.Need-returns Inv-loop μ-loop
 returns c = search needs
 
-pub take-block-spec : {M : Type 1} → statement M
-take-block-spec =
+pub perform-block-spec : {M : Type 1} → statement M
+perform-block-spec =
     tie.close
     (tie.spec
     Inv-loop
