@@ -1,3 +1,4 @@
+-- `zeros` meets its contract.
 use Prim.Native.Nat.{ℕ, _≤_, _<_, _-_}
 use mathlib.Core.Path.{_≡_}
 use native.Mathlib.Omega.{arith}
@@ -8,8 +9,6 @@ use Rattle.lists.proofs.Decides.{yes-to, no-to}
 use Rattle.store.proofs.ZerosLaws.{zeros-all, zeros-each}
 use Rattle.store.proofs.zeros.zeros.Statement.{statement}
 use Rattle.store.proofs.zeros.zeros.Tie as tie
-use Rattle.store.proofs.zeros.zeros.Reads as reads
-use Rattle.store.proofs.zeros.zeros.Lts as lts
 
 abbrev Inv-loop : tie.InvT-loop
 Inv-loop part i₀ i = (i ≤ length part) × ((k : ℕ) → k < i → getD part k 0 ≡ 0)
