@@ -5,77 +5,51 @@ use mathlib.Core.Bool.{Bool, true, false, not}
 use mathlib.Core.Option.{Option, none, some}
 use mathlib.Core.List.{List, [], _∷_, _++_, map}
 use native.Mathlib.Omega.{arith}
-use lib.ListN.{length, length-map}
-use Rattle.lists.specs.Decides.{Decides}
+use lib.ListN.{length}
 use Rattle.lists.specs.Lists.{butLast}
-use Rattle.lists.proofs.Decides.{refuted}
 use Rattle.lists.proofs.Tests.{true-not-false, not-true, not-false, ltb-of}
-use Rattle.rules.specs.Answers.{held}
+use Rattle.rules.specs.Answers.{done, held}
 use Rattle.rules.specs.State.{Message, Kind, seq, send, rec, spawn, self, check, Entry, Process, State, historyOf, historyAt, isProcess, inPool, sameQueue}
 use Rattle.rules.specs.Flight.{sends, left, flies}
 use Rattle.rules.specs.Commands.{Command, back, undeliver, Plan, refuse, accept, need, nothing, ownQueue, other, post, apply, undone, untouched, undoing, undelivering, atProcess, run, afterPlan, runState}
 use Rattle.rules.specs.Refusals.{for-back, for-undeliver, not-in-pool, no-entry, no-message-queued, message-held}
-use Rattle.rules.specs.Replies.{ofPlan, perform}
 use Rattle.rules.specs.Rules.{process}
 use Rattle.rules.proofs.Plans.{need-true}
 use Rattle.rules.proofs.Refusals.{refuses}
 use Rattle.store.specs.Layout.{nameWord, image}
-use Rattle.store.specs.Image.{IsImage}
+use Rattle.store.proofs.SoundStates.{in-places}
 use Rattle.reading.specs.Reads.{Holds, OfState, IsPlace}
 use Rattle.writing.specs.Writes.{Leads, Undoes, Unposts, CanTake, CanUndo}
-use Rattle.calls.specs.Calls.{outcome, countIn, stored, RequestCall}
-use Rattle.calls.specs.Numbers.{numberOf, valueOf, Performs, CommandCall}
-use Rattle.calls.specs.declared.answers.Answer.{Answer}
-use Rattle.calls.specs.declared.answers.Answer.the-variants.{Done, NoProcess, NothingToUndo, Held, NotAState}
+use Rattle.calls.specs.Calls.{outcome}
+use Rattle.calls.specs.Numbers.{numberOf, valueOf}
+use Rattle.calls.specs.declared.answers.Answer.the-variants.{Done, NoProcess, NothingToUndo, Held}
 use Rattle.calls.proofs.Accepted.{accepted-stored}
-use Rattle.backward.specs.Undoing.{IsNewest, isAccepted, Answers}
+use Rattle.calls.specs.Answering.{Answers, Does}
+use Rattle.calls.proofs.Answering.{does-refused}
+use Rattle.backward.specs.Undoing.{IsNewest, isAccepted}
+use Rattle.reading.proofs.StateReads.{queue-long}
 use Rattle.reading.proofs.Oldest.{entry-exists}
-use Rattle.backward.proofs.FlyingLaws.{lives-below}
+use Rattle.backward.proofs.Newest.{empty}
 use Rattle.backward.proofs.HeldLaws.{run-back}
 
--- ---- a store that holds a state, or none
+-- ---- accepted
 
-pub no-state : (c : Command) (l : List ℕ) (b : Bool) → Decides (IsImage l) b → not b ≡ true → CommandCall c l l NotAState
-unfolding CommandCall Performs RequestCall numberOf valueOf
-no-state c l b decides fails = record {
-  on-image = λ s rest sound e. absurd (refuted decides (not-true b fails) (record { state = s; rest = rest; sound = sound; words = e }));
-  elsewhere = λ n. refl;
-}
-
-pub a-state : (l : List ℕ) (b : Bool) → Decides (IsImage l) b → not b ≡ false → IsImage l
-a-state l b decides yes′ = decides .sound (not-false b yes′)
-
-pub state-answers : (c : Command) (l l′ : List ℕ) (b : Bool) → Decides (IsImage l) b → not b ≡ false → (r : Answer) → Answers c l l′ r → CommandCall c l l′ r
-unfolding CommandCall Performs RequestCall Answers
-state-answers c l l′ b decides yes′ r answers = record {
-  on-image = λ s rest sound e. answers s rest (record { sound = sound; words = e });
-  elsewhere = λ n. absurd (n (a-state l b decides yes′));
-}
-
--- ---- refused, or accepted
-
-refusal : (c : Command) (l : List ℕ) (r : Answer) → valueOf r ≡ 0 → ((s : State) (rest : List ℕ) → Holds l s rest → run c s ≡ refuse (numberOf r)) → Answers c l l r
-unfolding Answers perform ofPlan stored countIn
-refusal c l r none-counted refuses-it s rest h =
-    (λ j. outcome (numberOf r) (none-counted j) (h .words j))
-    ∙ sym (ap (λ plan. stored (ofPlan s plan) rest) (refuses-it s rest h))
-
-acceptance : (c : Command) (l l′ : List ℕ) → ((s : State) (rest : List ℕ) → Holds l s rest → (s′ : State) × (runState c s ≡ some s′) × (l′ ≡ image s′ ++ rest)) → Answers c l l′ (Done 0)
+acceptance : (c : Command) (l l′ : List ℕ) → ((s : State) (rest : List ℕ) → Holds l s rest → (s′ : State) × (runState c s ≡ some s′) × (l′ ≡ image s′ ++ rest)) → Does c l l′ (Done 0)
 unfolding Answers numberOf valueOf
 acceptance c l l′ accepts s rest h =
     let (s′, e, words) = accepts s rest h in
-    ap (outcome 0 0) words ∙ sym (accepted-stored c s s′ rest e)
+    ap (outcome done 0) words ∙ sym (accepted-stored c s s′ rest e)
 
 -- ---- a place that is in the pool, or not
 
 module _ (l : List ℕ) (p : ℕ) (b : Bool) (read : OfState l (λ s. b ≡ inPool s p)) where
-  pub back-no-process : not b ≡ true → Answers (back p) l l NoProcess
+  pub back-no-process : not b ≡ true → Does (back p) l l NoProcess
   unfolding OfState numberOf valueOf
-  back-no-process fails = refusal (back p) l NoProcess refl (λ s rest h. refuses s (h .sound .pool-ends) (not-in-pool for-back (sym (read s rest h) ∙ not-true b fails)))
+  back-no-process fails = does-refused (back p) l NoProcess refl (λ s rest h. refuses s (h .sound .pool-ends) (not-in-pool for-back (sym (read s rest h) ∙ not-true b fails)))
 
-  pub undeliver-no-process : not b ≡ true → Answers (undeliver p) l l NoProcess
+  pub undeliver-no-process : not b ≡ true → Does (undeliver p) l l NoProcess
   unfolding OfState numberOf valueOf
-  undeliver-no-process fails = refusal (undeliver p) l NoProcess refl (λ s rest h. refuses s (h .sound .pool-ends) (not-in-pool for-undeliver (sym (read s rest h) ∙ not-true b fails)))
+  undeliver-no-process fails = does-refused (undeliver p) l NoProcess refl (λ s rest h. refuses s (h .sound .pool-ends) (not-in-pool for-undeliver (sym (read s rest h) ∙ not-true b fails)))
 
   module _ (yes′ : not b ≡ false) where
     lives : (s : State) (rest : List ℕ) → Holds l s rest → inPool s p ≡ true
@@ -84,7 +58,7 @@ module _ (l : List ℕ) (p : ℕ) (b : Bool) (read : OfState l (λ s. b ≡ inPo
 
     pub pool-place : OfState l (IsPlace p)
     unfolding OfState
-    pool-place s rest h = lives-below s (h .sound) p (lives s rest h)
+    pool-place s rest h = in-places s (h .sound) p (lives s rest h)
 
     -- ---- back
 
@@ -93,17 +67,13 @@ module _ (l : List ℕ) (p : ℕ) (b : Bool) (read : OfState l (λ s. b ≡ inPo
       unfolding OfState inPool historyAt historyOf isProcess
       no-entries s rest h none-made = go (s .processes p) refl (lives s rest h) (sym (counted s rest h) ∙ none-made)
         where
-          empty : (g : List Entry) → length g ≡ 0 → g ≡ []
-          empty [] e = refl
-          empty (x ∷ g) e = absurd (omega arith)
-
           go : (o : Option Process) → s .processes p ≡ o → isProcess o ≡ true → length (historyOf o) ≡ 0 → (control : List ℕ) × (s .processes p ≡ some (process control []))
           go none i live e = true-not-false live refl
           go (some a) i live e = (a .control, i ∙ (λ j. some (record { control = a .control; history = empty (a .history) e j })))
 
-      pub back-nothing : n ≡ 0 → Answers (back p) l l NothingToUndo
+      pub back-nothing : n ≡ 0 → Does (back p) l l NothingToUndo
       unfolding numberOf valueOf
-      back-nothing none-made = refusal (back p) l NothingToUndo refl (λ s rest h. refuses s (h .sound .pool-ends) (no-entry (no-entries s rest h none-made .1)))
+      back-nothing none-made = does-refused (back p) l NothingToUndo refl (λ s rest h. refuses s (h .sound .pool-ends) (no-entry (no-entries s rest h none-made .1)))
 
       module _ (some-made : ¬ (n ≡ 0)) where
         pub back-newest : OfState l (IsNewest p (n - 1))
@@ -127,9 +97,9 @@ module _ (l : List ℕ) (p : ℕ) (b : Bool) (read : OfState l (λ s. b ≡ inPo
               go self f = true-not-false refl f
               go (check number) f = true-not-false refl f
 
-          pub back-held : not r ≡ true → Answers (back p) l l Held
+          pub back-held : not r ≡ true → Does (back p) l l Held
           unfolding OfState numberOf valueOf
-          back-held fails = refusal (back p) l Held refl (λ s rest h.
+          back-held fails = does-refused (back p) l Held refl (λ s rest h.
               let newest = back-newest s rest h in
               let (e, stands) = entry-exists (historyAt s p) (n - 1) (omega (arith, newest)) in
               let ran = run-back s p (n - 1) e newest stands in
@@ -148,7 +118,7 @@ module _ (l : List ℕ) (p : ℕ) (b : Bool) (read : OfState l (λ s. b ≡ inPo
             unfolding OfState
             back-can s rest h = let (s′, e) = can s (sym (tested s rest h) ∙ not-false r passes) in record { after = s′; accepted = e }
 
-            pub back-done : (l′ : List ℕ) → Leads l l′ (Undoes p) → Answers (back p) l l′ (Done 0)
+            pub back-done : (l′ : List ℕ) → Leads l l′ (Undoes p) → Does (back p) l l′ (Done 0)
             unfolding OfState Leads Undoes
             back-done l′ leads = acceptance (back p) l l′ (λ s rest h.
                 let (s′, e) = can s (sym (tested s rest h) ∙ not-false r passes) in
@@ -159,21 +129,17 @@ module _ (l : List ℕ) (p : ℕ) (b : Bool) (read : OfState l (λ s. b ≡ inPo
     module _ (names : List ℕ) (read-queue : OfState l (λ s. names ≡ map nameWord (s .queues p))) where
       long : (s : State) (rest : List ℕ) → Holds l s rest → length names ≡ length (s .queues p)
       unfolding OfState
-      long s rest h = ap length (read-queue s rest h) ∙ length-map (s .queues p) nameWord
+      long = queue-long l p names read-queue
 
-      empty-queue : (q : List Message) → length q ≡ 0 → q ≡ []
-      empty-queue [] e = refl
-      empty-queue (m ∷ q) e = absurd (omega arith)
-
-      pub undeliver-nothing : length names ≡ 0 → Answers (undeliver p) l l NothingToUndo
+      pub undeliver-nothing : length names ≡ 0 → Does (undeliver p) l l NothingToUndo
       unfolding numberOf valueOf
-      undeliver-nothing none-queued = refusal (undeliver p) l NothingToUndo refl (λ s rest h.
-          refuses s (h .sound .pool-ends) (no-message-queued (lives s rest h) (empty-queue (s .queues p) (sym (long s rest h) ∙ none-queued))))
+      undeliver-nothing none-queued = does-refused (undeliver p) l NothingToUndo refl (λ s rest h.
+          refuses s (h .sound .pool-ends) (no-message-queued (lives s rest h) (empty (s .queues p) (sym (long s rest h) ∙ none-queued))))
 
       module _ (some-queued : ¬ (length names ≡ 0)) (n : ℕ) (kept : OfState l (λ s. n ≡ length (left (historyAt s p)))) where
-        pub undeliver-held : length names ≤ n → Answers (undeliver p) l l Held
+        pub undeliver-held : length names ≤ n → Does (undeliver p) l l Held
         unfolding OfState numberOf valueOf
-        undeliver-held short = refusal (undeliver p) l Held refl (λ s rest h.
+        undeliver-held short = does-refused (undeliver p) l Held refl (λ s rest h.
             refuses s (h .sound .pool-ends) (message-held (lives s rest h) (λ e. some-queued (long s rest h ∙ ap length e)) (omega (arith, short, long s rest h, kept s rest h))))
 
         module _ (longer : n < length names) where
@@ -191,6 +157,6 @@ module _ (l : List ℕ) (p : ℕ) (b : Bool) (read : OfState l (λ s. b ≡ inPo
               go (some a) live [] h = absurd (omega arith)
               go (some a) live (m ∷ q) h = ap (λ plan. afterPlan plan s) (need-true held _ (ltb-of (length (left (a .history))) (length (m ∷ q)) h))
 
-          pub undeliver-done : (l′ : List ℕ) → Leads l l′ (Unposts p) → Answers (undeliver p) l l′ (Done 0)
+          pub undeliver-done : (l′ : List ℕ) → Leads l l′ (Unposts p) → Does (undeliver p) l l′ (Done 0)
           unfolding Leads Unposts
           undeliver-done l′ leads = acceptance (undeliver p) l l′ (λ s rest h. (apply (post p (butLast (s .queues p))) s, ran s rest h, leads s _ rest h refl))

@@ -4,9 +4,8 @@ use mathlib.Core.Path.{_≡_, refl, sym, _∙_, ap}
 use mathlib.Core.Bool.{Bool, true, false, not, _&&_}
 use mathlib.Core.Option.{Option, none, some}
 use mathlib.Core.List.{List, [], _∷_, map}
-use native.Mathlib.Decide.{decLt}
 use native.Mathlib.Omega.{arith}
-use lib.ListN.{length, length-map}
+use lib.ListN.{length}
 use Rattle.lists.proofs.Tests.{true-not-false}
 use Rattle.rules.specs.State.{Message, Entry, Process, State, historyOf, historyAt, isProcess, inPool, sameQueue}
 use Rattle.rules.specs.Flight.{sends, hasCome, flies, awaited}
@@ -14,24 +13,12 @@ use Rattle.rules.specs.Commands.{isNew, untouched}
 use Rattle.rules.specs.Sound.{Sound, SentTo}
 use Rattle.store.specs.Layout.{nameBase, nameWord}
 use Rattle.store.specs.Image.{IsImage}
-use Rattle.store.proofs.SoundStates.{sizes-in, numbered}
-use Rattle.reading.specs.Reads.{Holds, OfState, IsPlace, IsSend, OfSend, oldest}
-use Rattle.backward.specs.Undoing.{Lives}
+use Rattle.store.proofs.SoundStates.{sizes-in, in-places, numbered}
+use Rattle.reading.specs.Reads.{Holds, OfState, IsPlace, Lives, IsSend, OfSend, oldest}
 use Rattle.reading.proofs.Holding.{of-image}
+use Rattle.reading.proofs.StateReads.{queue-long}
 use Rattle.reading.proofs.Slotted.{entry-below}
 use Rattle.reading.proofs.Oldest.{sent-there}
-
--- the pool ends at P
-pub lives-below : (s : State) → Sound s → (q : ℕ) → inPool s q ≡ true → q < s .sizes .places
-lives-below s sound q live = go (decLt q (s .sizes .places))
-  where
-    go : Dec (q < s .sizes .places) → q < s .sizes .places
-    go (yes h) = h
-    go (no h) = true-not-false live (sound .pool-ends q (omega arith))
-
-pub lives-place : (l : List ℕ) (q : ℕ) → OfState l (Lives q) → OfState l (IsPlace q)
-unfolding OfState
-lives-place l q live s rest h = lives-below s (h .sound) q (live s rest h)
 
 -- the name's numbers are small
 pub record Small (s : State) (p i : ℕ) : Type 0 where
@@ -74,7 +61,7 @@ module _ (l : List ℕ) (p i : ℕ) (is : OfState l (IsSend p i)) where
 
     pub target-place : OfState l (IsPlace t)
     unfolding OfState
-    target-place s rest h = lives-below s (h .sound) t (target-lives s rest h)
+    target-place s rest h = in-places s (h .sound) t (target-lives s rest h)
 
     pub flying-is : (n : ℕ) → OfState l (λ s. n ≡ sends (oldest i (historyAt s p))) → (b : Bool) → OfState l (λ s. b ≡ hasCome s ((p * nameBase + n) / nameBase) ((p * nameBase + n) % nameBase) t)
         → OfState l (λ s. OfSend p i (λ target value. not b ≡ flies s p (sends (oldest i (historyAt s p))) target) s)
@@ -133,7 +120,7 @@ module _ (l : List ℕ) (q : ℕ) (live : OfState l (Lives q)) (n : ℕ) (count 
   module _ (names : List ℕ) (queue : OfState l (λ s. names ≡ map nameWord (s .queues q))) where
     long : (s : State) (rest : List ℕ) → Holds l s rest → length names ≡ length (s .queues q)
     unfolding OfState
-    long s rest holds = ap length (queue s rest holds) ∙ length-map (s .queues q) nameWord
+    long = queue-long l q names queue
 
     pub untouched-queued : 0 < length names → OfState l (λ s. false ≡ untouched s q)
     unfolding OfState untouched

@@ -4,11 +4,11 @@ use mathlib.Core.Path.{_≡_, refl, sym, _∙_, ap, subst}
 use mathlib.Core.Logic.{inl, inr}
 use mathlib.Core.Bool.{Bool, true, false}
 use mathlib.Core.Option.{Option, none, some}
-use mathlib.Core.List.{List, [], _∷_, _++_, map, append-nil}
+use mathlib.Core.List.{List, _∷_, _++_, map, append-nil}
 use native.Mathlib.Decide.{ℕ-discrete}
 use native.Mathlib.Omega.{arith}
 use lib.Dec.{eqb}
-use lib.ListN.{length, length-map, length-append}
+use lib.ListN.{length, length-append}
 use Rattle.lists.proofs.Tests.{true-or-false, eqb-of, eqb-apart}
 use Rattle.rules.specs.Answers.{held}
 use Rattle.rules.specs.State.{Message, Kind, seq, send, rec, spawn, self, check, asSend, asRec, asSpawn, Entry, Process, State, historyOf, historyAt, entryAt, inPool, sameQueue}
@@ -18,11 +18,12 @@ use Rattle.rules.specs.Sound.{Prefix}
 use Rattle.rules.proofs.Messages.{same-queue, queue-same}
 use Rattle.rules.proofs.SoundFacts.{flows-left}
 use Rattle.store.specs.Layout.{kindSend, kindRec, kindSpawn, nameWord, kindNumber, numberIn}
-use Rattle.reading.specs.Reads.{Holds, OfState, IsPlace, IsEntry, OfEntry, IsSend, OfSend, oldest}
-use Rattle.backward.specs.Undoing.{Lives, IsNewest, isAccepted}
+use Rattle.reading.specs.Reads.{Holds, OfState, IsPlace, Lives, IsEntry, OfEntry, IsSend, OfSend, oldest}
+use Rattle.backward.specs.Undoing.{IsNewest, isAccepted}
+use Rattle.reading.proofs.StateReads.{queue-long}
 use Rattle.reading.proofs.Slotted.{entry-place}
 use Rattle.reading.proofs.Oldest.{rec-by-kind, entry-exists}
-use Rattle.backward.proofs.Newest.{newest-first, is-send, is-spawn}
+use Rattle.backward.proofs.Newest.{empty, newest-first, is-send, is-spawn}
 
 -- a plan that needs a test is accepted where it passes
 accepted-need : (b : Bool) (n : ℕ) (d : Deed) (w : Move) → isAccepted (need b n (accept d w)) ≡ b
@@ -71,10 +72,6 @@ module _ (s : State) (p i : ℕ) (e : Entry) (newest : IsNewest p i s) (stands :
 prefix-same : (front queue : List Message) → Prefix front queue → sameQueue queue front ≡ eqb (length queue) (length front)
 prefix-same front queue prefix = go (ℕ-discrete (length queue) (length front))
   where
-    empty : (others : List Message) → length others ≡ 0 → others ≡ []
-    empty [] h = refl
-    empty (m ∷ others) h = absurd (omega arith)
-
     go : Dec (length queue ≡ length front) → sameQueue queue front ≡ eqb (length queue) (length front)
     go (yes n) =
         let none-more = empty (prefix .others) (omega (arith, n, ap length (prefix .whole), length-append front (prefix .others))) in
@@ -121,7 +118,7 @@ module _ (l : List ℕ) (p i : ℕ) (newest : OfState l (IsNewest p i)) where
         let (older, m, newer, k) = rec-by-kind (e .kind) (sym (read s rest h e stands) ∙ is) in
         let kept : left (historyAt s p) ≡ older ++ newer =
         ap left (newest-first (historyAt s p) i (newest s rest h) stands) ∙ ap (λ x. leftOr (asRec x) (left (oldest i (historyAt s p)))) k in
-        let long : length names ≡ length (s .queues p) = ap length (queue s rest h) ∙ length-map (s .queues p) nameWord in
+        let long = queue-long l p names queue s rest h in
         let front = subst (λ x. Prefix x (s .queues p)) kept (flows-left (historyAt s p) (s .queues p) (h .sound .prefixes p)) in
         (λ j. eqb (long j) ((counted s rest h ∙ ap length kept) j))
         ∙ sym (prefix-same (older ++ newer) (s .queues p) front)

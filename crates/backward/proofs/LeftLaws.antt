@@ -5,7 +5,7 @@ use mathlib.Core.Option.{some}
 use mathlib.Core.List.{List, _∷_, _++_, map}
 use native.Mathlib.Omega.{arith}
 use lib.ListN.{length, length-append, length-map}
-use Rattle.rules.specs.State.{asRec, rec, Entry, State, historyAt, entryAt}
+use Rattle.rules.specs.State.{asRec, Entry, State, historyAt, entryAt}
 use Rattle.rules.specs.Flight.{leftOr, left}
 use Rattle.rules.specs.Depends.{queueBefore}
 use Rattle.rules.proofs.Histories.{left-older}

@@ -1,3 +1,4 @@
+-- Back and undeliver answer and leave what `run` gives.
 pub mod Newest
 pub mod LeftLaws
 pub mod FlyingLaws

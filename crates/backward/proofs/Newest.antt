@@ -1,8 +1,8 @@
--- The newest entry of a history, and the kind that an entry's number says.
+-- The newest entry of a history, or none, and the kind that an entry's number says.
 use Prim.Native.Nat.{ℕ, suc}
 use mathlib.Core.Path.{_≡_, refl, sym, _∙_, ap}
 use mathlib.Core.Option.{some}
-use mathlib.Core.List.{List, _∷_}
+use mathlib.Core.List.{List, [], _∷_}
 use native.Mathlib.Numerals.{add-one}
 use native.Mathlib.Omega.{arith}
 use lib.ListN.{length}
@@ -10,6 +10,10 @@ use Rattle.rules.specs.State.{Kind, seq, send, rec, spawn, self, check, Entry, 
 use Rattle.store.specs.Layout.{kindSend, kindSpawn, kindNumber}
 use Rattle.reading.specs.Reads.{oldest}
 use Rattle.reading.proofs.Oldest.{oldest-all, parted}
+
+pub empty : {A : Type 0} (xs : List A) → length xs ≡ 0 → xs ≡ []
+empty [] e = refl
+empty (x ∷ xs) e = absurd (omega arith)
 
 -- the newest entry, and the older ones
 pub newest-first : (h : List Entry) (i : ℕ) {e : Entry} → length h ≡ suc i → entryAt h i ≡ some e → h ≡ e ∷ oldest i h

@@ -1,1 +1,2 @@
+-- What the functions of back and undeliver promise.
 pub mod Undoing

@@ -11,12 +11,12 @@ use writing::undoing::undo;
 ghost use Rattle.rules.specs.Commands.{back as backOf, undeliver as undeliverOf};
 ghost use Rattle.store.specs.Image.{IsImage};
 ghost use Rattle.calls.specs.Numbers.{CommandCall};
-ghost use Rattle.backward.specs.Undoing.{Answers};
+ghost use Rattle.calls.specs.Answering.{Does};
 
 // p's newest entry is undone, in a store that holds a state.
-pub fn back_held(store: &mut [u32], p: u32) -> Answer
+fn back_held(store: &mut [u32], p: u32) -> Answer
     requires { ⌜ IsImage (now store) ⌝ }
-    ensures { λ r. ⌜ Answers (backOf p) (now (store .entry)) (now (store .exit)) r ⌝ }
+    ensures { λ r. ⌜ Does (backOf p) (now (store .entry)) (now (store .exit)) r ⌝ }
 {
     if !in_pool(store, p) {
         return Answer::NoProcess;
@@ -43,9 +43,9 @@ pub fn back(store: &mut [u32], p: u32) -> Answer
 }
 
 // The newest message of p's queue goes back into flight, in a store that holds a state.
-pub fn undeliver_held(store: &mut [u32], p: u32) -> Answer
+fn undeliver_held(store: &mut [u32], p: u32) -> Answer
     requires { ⌜ IsImage (now store) ⌝ }
-    ensures { λ r. ⌜ Answers (undeliverOf p) (now (store .entry)) (now (store .exit)) r ⌝ }
+    ensures { λ r. ⌜ Does (undeliverOf p) (now (store .entry)) (now (store .exit)) r ⌝ }
 {
     if !in_pool(store, p) {
         return Answer::NoProcess;

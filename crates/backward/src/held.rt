@@ -18,8 +18,8 @@ ghost use Rattle.rules.specs.State.{historyAt};
 ghost use Rattle.rules.specs.Flight.{sends, left as leftBy, flies};
 ghost use Rattle.rules.specs.Commands.{back, untouched as untouchedAt, run};
 ghost use Rattle.store.specs.Image.{IsImage};
-ghost use Rattle.reading.specs.Reads.{OfState, IsPlace, IsSend, OfSend, oldest};
-ghost use Rattle.backward.specs.Undoing.{Lives, IsNewest, isAccepted};
+ghost use Rattle.reading.specs.Reads.{OfState, IsPlace, Lives, IsSend, OfSend, oldest};
+ghost use Rattle.backward.specs.Undoing.{IsNewest, isAccepted};
 
 // How many messages the newest rec of p left in its queue; 0 where there is none.
 pub fn left(store: &[u32], p: usize) -> usize

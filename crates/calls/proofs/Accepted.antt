@@ -1,7 +1,7 @@
 -- What a request on a state gives, accepted or refused, in words of `run` and of `Rollback`.
 use Prim.Native.Nat.{ℕ, _<_}
 use mathlib.Core.Path.{_≡_, refl, sym, _∙_, ap, subst}
-use mathlib.Core.Option.{Option, none, some}
+use mathlib.Core.Option.{some}
 use mathlib.Core.List.{List, [], _∷_, _++_}
 use native.Mathlib.Omega.{arith}
 use Rattle.lists.proofs.Tests.{none-not-some, some-injective}
@@ -15,7 +15,7 @@ use Rattle.rules.specs.Sound.{Sound}
 use Rattle.rules.specs.Line.{Request, single, rollbackTo}
 use Rattle.rules.specs.Refusals.{Refused, not-in-pool, is-finished, step-at-spawn, spawn-elsewhere, nothing-matches, is-stuck, target-missing, beyond-places, place-in-pool, too-large, history-full, not-in-flight, no-entry, no-message-queued, entry-held, message-held}
 use Rattle.rules.specs.Rollback.{Undos, stop, undo, Rollback, is-done, is-held, no-check, no-process, RolledBack, refused, rolled, numberOf, countOf, endOf, rollback}
-use Rattle.rules.specs.Replies.{Answer, ofPlan, ofRollback, perform}
+use Rattle.rules.specs.Replies.{ofPlan, ofRollback, perform}
 use Rattle.rules.specs.Demands.{Reachable}
 use Rattle.rules.proofs.Demands.{demands}
 use Rattle.rules.proofs.RollbackDemands.{rollback-demands}

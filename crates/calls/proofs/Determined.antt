@@ -2,18 +2,17 @@
 use Prim.Native.Nat.{ℕ}
 use mathlib.Core.Path.{_≡_, refl, sym, _∙_, ap}
 use mathlib.Core.Option.{Option, none, some}
-use mathlib.Core.List.{List, _++_, List-discrete}
+use mathlib.Core.List.{List, List-discrete}
 use native.Mathlib.Decide.{ℕ-discrete}
 use Rattle.rules.specs.State.{State}
-use Rattle.rules.specs.Sound.{Sound}
 use Rattle.rules.specs.Line.{Request, parseLine}
 use Rattle.rules.specs.Replies.{perform}
-use Rattle.store.specs.Layout.{image}
 use Rattle.store.specs.Image.{IsImage}
 use Rattle.store.specs.Loading.{Outcome}
 use Rattle.store.proofs.Laws.{image-laws}
 use Rattle.calls.specs.Calls.{OfStore, stored, RequestCall, AskedCall, LineCall, ListingCall, LoadCall}
 use Rattle.calls.specs.Promises.{Determined, Possible}
+use Rattle.calls.proofs.Answering.{without-state, with-state}
 
 -- equality of words is decidable, so two outcomes are equal where they cannot differ
 stable : {A : Type 0} → Dec A → ¬ (¬ A) → A
@@ -65,14 +64,8 @@ determined = record {
 pub possible : Possible
 unfolding RequestCall
 possible = record {
-  on-image = λ request s rest sound. record {
-    on-image = λ s′ rest′ sound′ e.
-        let (same, same-rest) = image-laws .one-state s s′ rest rest′ sound sound′ e in
-        ap (λ (x : State). stored (perform request x) rest) same ∙ ap (λ (r : List ℕ). stored (perform request s′) r) same-rest;
-    elsewhere = λ no. absurd (no (record { state = s; rest = rest; sound = sound; words = refl }));
-  };
-  elsewhere = λ request entry no. record {
-    on-image = λ s rest sound e. absurd (no (record { state = s; rest = rest; sound = sound; words = e }));
-    elsewhere = λ no′. refl;
-  };
+  on-image = λ request s rest sound. with-state (record { state = s; rest = rest; sound = sound; words = refl }) λ s′ rest′ h.
+      let (same, same-rest) = image-laws .one-state s s′ rest rest′ sound (h .sound) (h .words) in
+      ap (λ (x : State). stored (perform request x) rest) same ∙ ap (λ (r : List ℕ). stored (perform request s′) r) same-rest;
+  elsewhere = λ request entry no. without-state no;
 }

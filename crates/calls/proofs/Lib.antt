@@ -1,4 +1,6 @@
+-- What follows from the contracts of the calls, and how a call meets its own.
 pub mod AnswerNumbers
+pub mod Answering
 pub mod Determined
 pub mod OneAnswer
 pub mod Past

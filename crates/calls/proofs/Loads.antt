@@ -1,10 +1,10 @@
 -- After a load and any calls the store is the image of a state reached from a load: no answer is 15, and no rollback is held.
 use Prim.Native.Nat.{ℕ}
 use mathlib.Core.Path.{_≡_, refl, sym, _∙_, ap, subst}
-use mathlib.Core.Logic.{_≢_, _⊎_, inl, inr}
-use mathlib.Core.Bool.{Bool, true, false, _&&_}
+use mathlib.Core.Logic.{_≢_, inl, inr}
+use mathlib.Core.Bool.{true, _&&_}
 use mathlib.Core.Option.{Option, none, some}
-use mathlib.Core.List.{List, [], _∷_, _++_}
+use mathlib.Core.List.{List, []}
 use native.Mathlib.Omega.{arith}
 use lib.Dec.{leb}
 use lib.ListN.{length, drop}
@@ -14,7 +14,6 @@ use Rattle.term.specs.Module.{checkModule}
 use Rattle.rules.specs.Answers.{done, badModule, held, notAState, badLine}
 use Rattle.rules.specs.State.{Sizes, State}
 use Rattle.rules.specs.Load.{goodSizes, loaded, Load, refused, loads, load}
-use Rattle.rules.specs.Commands.{runState}
 use Rattle.rules.specs.Sound.{Sound}
 use Rattle.rules.specs.Line.{Request, rollbackTo, parseLine}
 use Rattle.rules.specs.Listing.{listing}
@@ -22,11 +21,11 @@ use Rattle.rules.specs.Replies.{perform}
 use Rattle.rules.specs.Demands.{Reachable}
 use Rattle.rules.proofs.Demands.{demands}
 use Rattle.rules.proofs.RollbackDemands.{rollback-demands}
-use Rattle.store.specs.Layout.{needed, image}
+use Rattle.store.specs.Layout.{needed}
 use Rattle.store.specs.Loading.{Outcome, afterLoad, loadInto}
 use Rattle.calls.specs.Calls.{stored, RequestCall, AskedCall, LineCall, written, ListingCall, LoadCall}
 use Rattle.calls.specs.Promises.{Held, by-load, by-refused-load, by-request, by-line, ReachedStore, AfterALoad}
-use Rattle.calls.proofs.Accepted.{reach-request, below-request, rollback-outcome, rollback-stored}
+use Rattle.calls.proofs.Accepted.{reach-request, below-request, rollback-outcome}
 
 -- a load that is answered 0 leaves the image of the loaded state
 loaded-store : (module′ : List ℕ) (sizes : Sizes) (entry : List ℕ) (checked : Option ℕ) → goodSizes sizes ≡ true → checkModule module′ ≡ checked

@@ -1,5 +1,5 @@
 -- A delivery: 11 where there is no such message in flight, else it comes to the end of its target's queue, which has room.
-use Prim.Native.Nat.{ℕ, _+_, _*_, _/_, _%_, _<_}
+use Prim.Native.Nat.{ℕ, _+_, _*_, _<_}
 use mathlib.Core.Path.{_≡_, refl, sym, _∙_, ap, subst}
 use mathlib.Core.Bool.{Bool, true, false, not, _&&_}
 use mathlib.Core.Option.{Option, none, some}
@@ -12,6 +12,7 @@ use Rattle.rules.specs.State.{Message, Letter, letter, Process, State, historyO
 use Rattle.rules.specs.Flight.{sent, hasCome, flies}
 use Rattle.rules.specs.Sound.{SentTo}
 use Rattle.rules.specs.Commands.{deliver, delivers, post, Plan, refuse, accept, need, setQueue, apply, delivering, run, afterPlan, runState}
+use Rattle.rules.specs.Replies.{perform}
 use Rattle.rules.specs.Rules.{message}
 use Rattle.rules.proofs.Frame.{no-process}
 use Rattle.rules.proofs.Demands.{demands}
@@ -20,14 +21,17 @@ use Rattle.store.proofs.SoundStates.{storable}
 use Rattle.calls.specs.Numbers.{numberOf, valueOf}
 use Rattle.calls.specs.declared.answers.Answer.{Answer}
 use Rattle.calls.specs.declared.answers.Answer.the-variants.{Done, NoMessage}
-use Rattle.reading.specs.Reads.{Holds, OfState, IsPlace, OfSend, IsSend, SendFound}
+use Rattle.store.specs.Layout.{nameBase}
+use Rattle.reading.specs.Reads.{Holds, OfState, IsPlace, OfSend, IsSend, SendAt, SendFound}
+use Rattle.reading.proofs.Naming.{senderOf, countOf, name-sender, name-count}
+use Rattle.reading.proofs.MailReads.{found-at}
 use Rattle.reading.specs.declared.found.Found.{Found}
 use Rattle.reading.specs.declared.found.Found.the-variants.{Nowhere, At}
 use Rattle.writing.specs.Writes.{Leads, Posts, CanPost}
-use Rattle.forward.specs.Forward.{Does, SendAt}
+use Rattle.calls.specs.Answering.{Answers, Does}
 use Rattle.forward.proofs.Living.{place-is, sizes-of}
-use Rattle.forward.proofs.Made.{obeys-refused, obeys-done}
-use Rattle.forward.proofs.Mailing.{Said, said, name-sender, name-count, found-at}
+use Rattle.calls.proofs.Answering.{obeys-done, does-refused}
+use Rattle.forward.proofs.Mailing.{Said, said}
 
 deliver-runs : (st : State) (s k : ℕ) {o : Option Letter} → sent (historyAt st s) k ≡ o → run (deliver s k) st ≡ delivering st s k o
 unfolding run
@@ -40,10 +44,9 @@ module _ (entry : List ℕ) (s k : ℕ) where
   unsent st rest h e r is = deliver-runs st s k e ∙ ap (λ (x : Answer). refuse (numberOf x)) (sym is)
 
   pub deliver-outside : (b : Bool) → OfState entry (λ st. b ≡ inPool st s) → b ≡ false → Does (deliver s k) entry entry NoMessage
-  unfolding Does OfState historyAt historyOf sent valueOf
-  deliver-outside b pool e st rest h =
-      obeys-refused _ st rest entry NoMessage (h .words) refl
-      (unsent st rest h (ap (λ (o : Option Process). sent (historyOf o) k) (no-process st s (sym (pool st rest h) ∙ e))) NoMessage refl)
+  unfolding OfState historyAt historyOf sent valueOf
+  deliver-outside b pool e = does-refused (deliver s k) entry NoMessage refl (λ st rest h.
+      unsent st rest h (ap (λ (o : Option Process). sent (historyOf o) k) (no-process st s (sym (pool st rest h) ∙ e))) NoMessage refl)
 
   pub sender-lives : (b : Bool) → OfState entry (λ st. b ≡ inPool st s) → b ≡ true → OfState entry (IsPlace s)
   unfolding OfState
@@ -51,9 +54,9 @@ module _ (entry : List ℕ) (s k : ℕ) where
 
   module _ (f : Found) (found : OfState entry (λ st. SendFound (historyAt st s) k f)) where
     pub deliver-nowhere : f ≡ Nowhere → Does (deliver s k) entry entry NoMessage
-    unfolding Does OfState SendFound valueOf
-    deliver-nowhere e st rest h =
-        obeys-refused _ st rest entry NoMessage (h .words) refl (unsent st rest h (subst (SendFound (historyAt st s) k) e (found st rest h)) NoMessage refl)
+    unfolding OfState SendFound valueOf
+    deliver-nowhere e = does-refused (deliver s k) entry NoMessage refl (λ st rest h.
+        unsent st rest h (subst (SendFound (historyAt st s) k) e (found st rest h)) NoMessage refl)
 
     pub deliver-found : (i : ℕ) → f ≡ At i → OfState entry (SendAt s k i)
     unfolding OfState
@@ -102,12 +105,12 @@ module _ (entry : List ℕ) (s k i : ℕ) (send-at : OfState entry (SendAt s k i
     unfolding OfState
     target-place st rest h = place-is st (h .sound) t (lives st rest h)
 
-    module _ (name : ℕ) (named : s * 65536 + k ≡ name) (b : Bool) (come : OfState entry (λ st. b ≡ hasCome st (name / 65536) (name % 65536) t)) where
+    module _ (name : ℕ) (named : s * nameBase + k ≡ name) (b : Bool) (come : OfState entry (λ st. b ≡ hasCome st (senderOf name) (countOf name) t)) where
       has-come-is : (st : State) (rest : List ℕ) → Holds entry st rest → hasCome st s k t ≡ b
       unfolding OfState
       has-come-is st rest h =
-          let small : k < 65536 = omega (arith, was-said st rest h .count-small) in
-          ap (λ (x : ℕ). hasCome st x k t) (sym (name-sender s k name small named)) ∙ ap (λ (y : ℕ). hasCome st (name / 65536) y t) (sym (name-count s k name small named)) ∙ sym (come st rest h)
+          let small : k < nameBase = omega (arith, was-said st rest h .count-small) in
+          ap (λ (x : ℕ). hasCome st x k t) (sym (ap senderOf (sym named) ∙ name-sender s k small)) ∙ ap (λ (y : ℕ). hasCome st (senderOf name) y t) (sym (ap countOf (sym named) ∙ name-count s k small)) ∙ sym (come st rest h)
 
       flies-is : (st : State) (rest : List ℕ) → Holds entry st rest → flies st s k t ≡ not b
       unfolding flies
@@ -121,10 +124,9 @@ module _ (entry : List ℕ) (s k i : ℕ) (send-at : OfState entry (SendAt s k i
           ∙ ap (λ (x : Bool). need x noMessage (accept (delivers s k t) (post t (st .queues t ++ (messageOf s k (theSend st rest h .value) ∷ []))))) (flies-is st rest h)
 
       pub deliver-come : b ≡ true → Does (deliver s k) entry entry NoMessage
-      unfolding Does need numberOf valueOf
-      deliver-come e st rest h =
-          obeys-refused _ st rest entry NoMessage (h .words) refl
-          (runs st rest h ∙ ap (λ (x : Bool). need (not x) noMessage (accept (delivers s k t) (post t (st .queues t ++ (messageOf s k (theSend st rest h .value) ∷ []))))) e)
+      unfolding need numberOf valueOf
+      deliver-come e = does-refused (deliver s k) entry NoMessage refl (λ st rest h.
+          runs st rest h ∙ ap (λ (x : Bool). need (not x) noMessage (accept (delivers s k t) (post t (st .queues t ++ (messageOf s k (theSend st rest h .value) ∷ []))))) e)
 
       accepted : b ≡ false → (st : State) (rest : List ℕ) (h : Holds entry st rest)
           → run (deliver s k) st ≡ accept (delivers s k t) (post t (st .queues t ++ (messageOf s k (theSend st rest h .value) ∷ [])))
@@ -146,7 +148,7 @@ module _ (entry : List ℕ) (s k i : ℕ) (send-at : OfState entry (SendAt s k i
           }
 
       pub deliver-does : (exit : List ℕ) → b ≡ false → Leads entry exit (Posts t name) → Does (deliver s k) entry exit (Done 0)
-      unfolding Does Leads
+      unfolding Answers perform Leads
       deliver-does exit e leads st rest h =
           let m = messageOf s k (theSend st rest h .value) in
           obeys-done _ (delivers s k t) (post t (st .queues t ++ (m ∷ []))) st rest exit

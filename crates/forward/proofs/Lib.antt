@@ -1,3 +1,4 @@
+-- Step, spawn and deliver answer and leave what `run` gives.
 pub mod Living
 pub mod Becoming
 pub mod NextRows

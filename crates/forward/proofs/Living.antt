@@ -4,7 +4,6 @@ use mathlib.Core.Path.{_≡_, refl, _∙_, ap}
 use mathlib.Core.Bool.{true}
 use mathlib.Core.Option.{Option, none, some}
 use mathlib.Core.List.{List}
-use native.Mathlib.Decide.{decLt}
 use native.Mathlib.Omega.{arith}
 use lib.Dec.{ltb}
 use lib.ListN.{length}
@@ -16,9 +15,10 @@ use Rattle.step.specs.Controls.{ControlIs}
 use Rattle.rules.specs.State.{Process, State, historyOf, historyAt, isProcess, inPool}
 use Rattle.rules.specs.Sound.{SoundControl, Sound}
 use Rattle.store.specs.Image.{IsImage}
-use Rattle.store.proofs.SoundStates.{SizesIn, sizes-in, module-short}
-use Rattle.reading.specs.Reads.{OfState, controlOf, controlAt, IsPlace}
-use Rattle.forward.specs.Forward.{Lives, processAt}
+use Rattle.store.proofs.SoundStates.{SizesIn, sizes-in, module-short, in-places}
+use Rattle.reading.specs.Reads.{OfState, controlOf, controlAt, Lives}
+use Rattle.reading.proofs.Holding.{at-image}
+use Rattle.forward.specs.Forward.{processAt}
 use Rattle.step.proofs.Ready.{control-ready}
 
 live-process : (o : Option Process) → isProcess o ≡ true → o ≡ some (record { control = controlOf o; history = historyOf o })
@@ -39,7 +39,7 @@ module _ (s : State) (sound : Sound s) (p : ℕ) (lives : inPool s p ≡ true) w
   process-is = live-process (s .processes p) lives
 
   pub place-is : p < s .sizes .places
-  place-is = elim (decLt p (s .sizes .places)) [ yes h ↦ h | no h ↦ true-not-false lives (sound .pool-ends p (omega arith)) ]
+  place-is = in-places s sound p lives
 
   pub control-is : SoundControl s (controlAt s p)
   control-is = sound .controls p (processAt s p) process-is
@@ -52,14 +52,6 @@ module _ (s : State) (sound : Sound s) (p : ℕ) (lives : inPool s p ≡ true) w
   ready = let few = sizes-of s sound .places-high in control-ready (s .module′) (controlAt s p) (s .sizes .places) (sound .module-passes) (omega arith) (control-is .good)
 
 -- ---- of the state that words hold
-
-pub at-image : (P : State → Type 0) {l : List ℕ} (i : IsImage l) → OfState l P → P (i .state)
-unfolding OfState
-at-image P i o = o (i .state) (i .rest) (record { sound = i .sound; words = i .words })
-
-pub of-place : (l : List ℕ) (p : ℕ) → OfState l (Lives p) → OfState l (IsPlace p)
-unfolding OfState
-of-place l p lives s rest h = place-is s (h .sound) p (lives s rest h)
 
 pub control-short : (l c : List ℕ) (p : ℕ) → IsImage l → OfState l (Lives p) → OfState l (λ s. c ≡ controlAt s p) → length c < 4294967295
 control-short l c p i lives e =

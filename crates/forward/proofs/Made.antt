@@ -16,16 +16,14 @@ use Rattle.step.specs.declared.step.Next.the-variants.{Nothing, TooLarge, Row}
 use Rattle.rules.specs.Answers.{tooLarge, historyFull}
 use Rattle.rules.specs.State.{Kind, rec, spawn, State, historyAt}
 use Rattle.rules.specs.Load.{newProcess}
-use Rattle.rules.specs.Commands.{Deed, Move, Beside, nothing, ownQueue, other, makes, turn, Plan, refuse, accept, need, apply, entry, making}
-use Rattle.rules.specs.Replies.{ofPlan}
+use Rattle.rules.specs.Commands.{Beside, nothing, ownQueue, other, makes, turn, refuse, accept, need, apply, entry, making}
 use Rattle.store.specs.Layout.{image}
-use Rattle.calls.specs.Calls.{outcome, stored, countIn}
 use Rattle.calls.specs.Numbers.{numberOf, valueOf}
-use Rattle.calls.specs.declared.answers.Answer.{Answer}
 use Rattle.calls.specs.declared.answers.Answer.the-variants.{Done, TooLarge as LargeAnswer, HistoryFull}
-use Rattle.reading.specs.Reads.{OfState}
+use Rattle.reading.specs.Reads.{OfState, Lives}
+use Rattle.calls.proofs.Answering.{obeys-refused, obeys-done}
 use Rattle.writing.specs.Writes.{Leads, grown, Enters, Takes, Spawns, CanGrow}
-use Rattle.forward.specs.Forward.{Obeys, Lives, Sized, Within, Drawn, processAt, Made, MakesEntry, MakesRec, MakesSpawn}
+use Rattle.forward.specs.Forward.{Sized, Within, Drawn, processAt, Made, MakesEntry, MakesRec, MakesSpawn}
 
 -- ---- what is told of a next control's length
 
@@ -72,19 +70,6 @@ within-of m size (Row n) e = let f = fitted-row n m size e in omega (arith, f .0
 
 pub wrote-within : (whole old new : List ℕ) (r : Next) → WroteNext whole old new r → Within r (length new)
 wrote-within whole old new r w = within-of (length whole) (length new) r (w .answer ∙ ap (fittedOf (length whole)) (sym (wrote-length whole old new r w)))
-
--- ---- plans that are obeyed
-
-pub obeys-refused : (plan : Plan) (s : State) (rest exit : List ℕ) (r : Answer) → exit ≡ image s ++ rest → valueOf r ≡ 0 → plan ≡ refuse (numberOf r) → Obeys plan s rest exit r
-unfolding stored ofPlan countIn
-obeys-refused plan s rest exit r e v f = rw f (λ i. outcome (numberOf r) (v i) (e i))
-
-pub obeys-done : (plan : Plan) (d : Deed) (w : Move) (s : State) (rest exit : List ℕ) → exit ≡ image (apply w s) ++ rest → plan ≡ accept d w → Obeys plan s rest exit (Done 0)
-unfolding stored ofPlan countIn numberOf valueOf
-obeys-done plan d w s rest exit e f = rw f (λ i. outcome 0 0 (e i))
-
-pub obeys-same : (plan plan′ : Plan) (s : State) (rest exit : List ℕ) (r : Answer) → plan ≡ plan′ → Obeys plan′ s rest exit r → Obeys plan s rest exit r
-obeys-same plan plan′ s rest exit r e h = h ∙ ap (λ (x : Plan). stored (ofPlan s x) rest) (sym e)
 
 -- ---- making
 

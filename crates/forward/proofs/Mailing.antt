@@ -1,5 +1,5 @@
 -- A message that was sent: its name, its value, and the entry that sent it.
-use Prim.Native.Nat.{ℕ, _+_, _*_, _/_, _%_, _≤_, _<_}
+use Prim.Native.Nat.{ℕ, _≤_, _<_}
 use mathlib.Core.Path.{_≡_, refl, sym, _∙_, ap, subst, subst₂}
 use mathlib.Core.Bool.{Bool, true, false}
 use mathlib.Core.Option.{Option, none, some}
@@ -22,19 +22,22 @@ use Rattle.step.specs.Becomes
 use Rattle.step.specs.declared.step.Next.{Next}
 use Rattle.step.proofs.RowSplit.{working-stands}
 use Rattle.step.proofs.RowWork.{work-reads, work-not}
-use Rattle.rules.specs.State.{Message, Letter, letter, asSend, Entry, State, historyAt, entryAt}
+use Rattle.rules.specs.State.{Message, letter, State, historyAt}
 use Rattle.rules.specs.Flight.{sent}
 use Rattle.rules.specs.Sound.{SentTo, Sound}
 use Rattle.rules.proofs.Histories.{sent-suffix, suffix-entry}
-use Rattle.store.specs.Layout.{nameWord}
+use Rattle.store.specs.Layout.{mostEntries, mostWords, nameBase, nameWord}
 use Rattle.store.specs.Image.{IsImage}
 use Rattle.store.proofs.SoundStates.{numbered}
-use Rattle.reading.specs.Reads.{OfState, controlAt, IsPlace, OfSend, IsSend, SendFound}
+use Rattle.reading.specs.Reads.{OfState, controlAt, IsPlace, OfSend, IsSend, SendFound, Lives}
 use Rattle.reading.specs.declared.found.Found.{Found}
+use Rattle.reading.proofs.Holding.{at-image}
+use Rattle.reading.proofs.Naming.{senderOf, countOf, name-sender, name-count}
+use Rattle.reading.proofs.MailReads.{found-at}
 use Rattle.reading.specs.declared.found.Found.the-variants.{Nowhere, At}
-use Rattle.forward.specs.Forward.{Lives, about, IsSent, ValueSent, TakenRow, SendAt}
+use Rattle.forward.specs.Forward.{about, IsSent, ValueSent, TakenRow}
 use Rattle.step.proofs.Ready.{control-ready, sent-ready}
-use Rattle.forward.proofs.Living.{sizes-of, ready, at-image}
+use Rattle.forward.proofs.Living.{sizes-of, ready}
 use Rattle.forward.proofs.Becoming.{either, no-value}
 
 -- ---- a value that is sent is no longer than the control that sends it
@@ -98,9 +101,9 @@ sent-short module′ c target value row i e =
 
 pub record Said (s : State) (p : ℕ) (m : Message) : Type 0 where
   pub sender-below : m .sender < s .sizes .places
-  pub count-small : m .count < 64
+  pub count-small : m .count < mostEntries
   pub value-is : ValueIs (m .value) (termOf (m .value))
-  pub value-short : length (m .value) ≤ 255
+  pub value-short : length (m .value) ≤ mostWords
 
 pub said : (s : State) (p : ℕ) (m : Message) → Sound s → SentTo s p m → Said s p m
 unfolding SentTo
@@ -121,58 +124,43 @@ said s p m sound e =
       value-short = omega (arith, short, control .fits, sizes .words-high);
     }
 
--- a name's parts
-pub name-sender : (s k name : ℕ) → k < 65536 → s * 65536 + k ≡ name → name / 65536 ≡ s
-name-sender s k name h e = omega arith
-
-pub name-count : (s k name : ℕ) → k < 65536 → s * 65536 + k ≡ name → name % 65536 ≡ k
-name-count s k name h e = omega arith
-
-letter-at : (s : State) (q k i : ℕ) (e : Entry) (x : Letter) → entryAt (historyAt s q) i ≡ some e → asSend (e .kind) ≡ some x → sent (historyAt s q) k ≡ some x → SendAt q k i s
-letter-at s q k i e (letter target value) a b d = record { entry = e; target = target; value = value; stands = a; is-send = b; is-kth = d }
-
--- the send that was found
-pub found-at : (s : State) (q k i : ℕ) → SendFound (historyAt s q) k (At i) → SendAt q k i s
-unfolding SendFound
-found-at s q k i x = letter-at s q k i (x .0) (x .1) (x .2) (x .3) (x .4)
-
 same-value : {a b : ℕ} {v w : List ℕ} → letter a v ≡ letter b w → v ≡ w
 same-value e = cc
 
 module _ (l : List ℕ) (p name : ℕ) (is-sent : OfState l (IsSent p name)) where
   -- where the message of that name stands among the sends of its sender
-  sent-there : (s : State) (m : Message) → Sound s → SentTo s p m → nameWord m ≡ name → sent (historyAt s (name / 65536)) (name % 65536) ≡ some (letter p (m .value))
+  sent-there : (s : State) (m : Message) → Sound s → SentTo s p m → nameWord m ≡ name → sent (historyAt s (senderOf name)) (countOf name) ≡ some (letter p (m .value))
   unfolding SentTo
   sent-there s m sound e named =
       let x = said s p m sound e in
-      let small : m .count < 65536 = omega (arith, x .count-small) in
-      ap (λ (j : ℕ). sent (historyAt s j) (name % 65536)) (name-sender (m .sender) (m .count) name small named)
-      ∙ ap (sent (historyAt s (m .sender))) (name-count (m .sender) (m .count) name small named) ∙ e
+      let small : m .count < nameBase = omega (arith, x .count-small) in
+      ap (λ (j : ℕ). sent (historyAt s j) (countOf name)) (ap senderOf (sym named) ∙ name-sender (m .sender) (m .count) small)
+      ∙ ap (sent (historyAt s (m .sender))) (ap countOf (sym named) ∙ name-count (m .sender) (m .count) small) ∙ e
 
-  pub sender-place : OfState l (IsPlace (name / 65536))
+  pub sender-place : OfState l (IsPlace (senderOf name))
   unfolding OfState
   sender-place s rest h =
       let x = is-sent s rest h in
       let y = said s p (x .message) (h .sound) (x .said) in
-      let small : x .message .count < 65536 = omega (arith, y .count-small) in
-      omega (arith, name-sender (x .message .sender) (x .message .count) name small (x .named), y .sender-below)
+      let small : x .message .count < nameBase = omega (arith, y .count-small) in
+      omega (arith, ap senderOf (sym (x .named)) ∙ name-sender (x .message .sender) (x .message .count) small, y .sender-below)
 
-  module _ (f : Found) (found : OfState l (λ s. SendFound (historyAt s (name / 65536)) (name % 65536) f)) where
+  module _ (f : Found) (found : OfState l (λ s. SendFound (historyAt s (senderOf name)) (countOf name) f)) where
     pub content-nowhere : (v : List ℕ) → f ≡ Nowhere → OfState l (ValueSent p name v)
     unfolding OfState ValueSent SendFound
     content-nowhere v e s rest h m to named =
-        none-not-some (sym (subst (SendFound (historyAt s (name / 65536)) (name % 65536)) e (found s rest h)) ∙ sent-there s m (h .sound) to named)
+        none-not-some (sym (subst (SendFound (historyAt s (senderOf name)) (countOf name)) e (found s rest h)) ∙ sent-there s m (h .sound) to named)
 
-    pub content-send : (i : ℕ) → f ≡ At i → OfState l (IsSend (name / 65536) i)
+    pub content-send : (i : ℕ) → f ≡ At i → OfState l (IsSend (senderOf name) i)
     unfolding OfState
     content-send i e s rest h =
-        let x = found-at s (name / 65536) (name % 65536) i (subst (SendFound (historyAt s (name / 65536)) (name % 65536)) e (found s rest h)) in
+        let x = found-at s (senderOf name) (countOf name) i (subst (SendFound (historyAt s (senderOf name)) (countOf name)) e (found s rest h)) in
         record { entry = x .entry; target = x .target; value = x .value; stands = x .stands; is-send = x .is-send }
 
-    pub content-found : (i : ℕ) (v : List ℕ) → f ≡ At i → OfState l (OfSend (name / 65536) i (λ target value. v ≡ value)) → OfState l (ValueSent p name v)
+    pub content-found : (i : ℕ) (v : List ℕ) → f ≡ At i → OfState l (OfSend (senderOf name) i (λ target value. v ≡ value)) → OfState l (ValueSent p name v)
     unfolding OfState OfSend ValueSent
     content-found i v e is s rest h m to named =
-        let x = found-at s (name / 65536) (name % 65536) i (subst (SendFound (historyAt s (name / 65536)) (name % 65536)) e (found s rest h)) in
+        let x = found-at s (senderOf name) (countOf name) i (subst (SendFound (historyAt s (senderOf name)) (countOf name)) e (found s rest h)) in
         let one : v ≡ x .value = is s rest h (x .entry) (x .target) (x .value) (x .stands) (x .is-send) in
         one ∙ same-value (some-injective (sym (x .is-kth) ∙ sent-there s m (h .sound) to named))
 

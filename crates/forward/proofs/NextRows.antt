@@ -4,14 +4,14 @@ use mathlib.Core.Path.{_≡_, sym, _∙_, ap, subst, subst₂}
 use mathlib.Core.List.{List, [], _∷_}
 use Rattle.term.specs.Read.{termOf, termsOf}
 use Rattle.machine.specs.Value.{atom, pid}
-use Rattle.machine.specs.Work.{Work, work, next}
+use Rattle.machine.specs.Work.{Work, work}
 use Rattle.step.specs.Steps.{WroteNext}
 use Rattle.step.specs.Controls.{ControlIs, doingOf, DoingOf}
 use Rattle.step.specs.Becomes.{BecomesWord, SeqIs, SeqNext, SendNext, ChildNext}
 use Rattle.step.specs.declared.work.Doing.{Doing}
 use Rattle.step.specs.declared.step.Next.{Next}
-use Rattle.reading.specs.Reads.{OfState, controlAt}
-use Rattle.forward.specs.Forward.{Lives, about, SeqRow, SendRow, WordRow, ChildRow}
+use Rattle.reading.specs.Reads.{OfState, controlAt, Lives}
+use Rattle.forward.specs.Forward.{about, SeqRow, SendRow, WordRow, ChildRow}
 use Rattle.step.proofs.Ready.{module-ready}
 use Rattle.forward.proofs.Living.{ready}
 use Rattle.forward.proofs.Becoming.{self-becomes, spawn-becomes, check-becomes, pid-word, atom-word}

@@ -2,7 +2,7 @@
 use Prim.Native.Nat.{ℕ, _≤_, _<_}
 use mathlib.Core.Path.{_≡_, refl, sym, _∙_, ap}
 use mathlib.Core.Bool.{Bool, true, false, not}
-use mathlib.Core.Option.{none, some}
+use mathlib.Core.Option.{some}
 use mathlib.Core.List.{List}
 use native.Mathlib.Omega.{arith}
 use lib.Dec.{ltb}
@@ -19,15 +19,19 @@ use Rattle.rules.specs.Answers.{placeTaken}
 use Rattle.rules.specs.State.{spawn, State, inPool}
 use Rattle.rules.specs.Load.{newProcess}
 use Rattle.rules.specs.Commands.{spawnInto, other, Plan, refuse, need, making, spawning, run}
+use Rattle.rules.specs.Replies.{perform}
 use Rattle.store.specs.Image.{IsImage}
 use Rattle.calls.specs.Numbers.{numberOf, valueOf}
 use Rattle.calls.specs.declared.answers.Answer.{Answer}
 use Rattle.calls.specs.declared.answers.Answer.the-variants.{PlaceTaken, TooLarge as LargeAnswer}
-use Rattle.reading.specs.Reads.{Holds, OfState}
+use Rattle.reading.specs.Reads.{Holds, OfState, Lives}
 use Rattle.writing.specs.Writes.{CanSpawn}
-use Rattle.forward.specs.Forward.{Does, Lives, about, About, Sized, WordRow, ChildRow, Within, processAt, MakesSpawn, Free, Made}
-use Rattle.forward.proofs.Living.{control-is, control-good, laws-of, sizes-of, at-image}
-use Rattle.forward.proofs.Made.{fitted-nothing, fitted-large, fitted-row, wrote-drawn, wrote-length, wrote-within, obeys-refused, obeys-same}
+use Rattle.calls.specs.Answering.{Answers, Does}
+use Rattle.calls.proofs.Answering.{obeys-same, does-refused}
+use Rattle.reading.proofs.Holding.{at-image}
+use Rattle.forward.specs.Forward.{about, About, Sized, WordRow, ChildRow, Within, processAt, MakesSpawn, Free, Made}
+use Rattle.forward.proofs.Living.{control-is, control-good, laws-of, sizes-of}
+use Rattle.forward.proofs.Made.{fitted-nothing, fitted-large, fitted-row, wrote-drawn, wrote-length, wrote-within}
 use Rattle.forward.proofs.Steps.{WorkFor, for-doing, spawn-runs, about-lives}
 
 -- a place that is refused by either test
@@ -62,16 +66,14 @@ module _ (entry : List ℕ) (p f : ℕ) (about-spawn : OfState entry (About p Sp
         omega (arith, born .fits)
 
   pub spawn-beyond : (n : ℕ) → OfState entry (λ s. n ≡ s .sizes .places) → n ≤ f → Does (spawnInto p f) entry entry PlaceTaken
-  unfolding Does OfState need numberOf valueOf
-  spawn-beyond n places beyond s rest h =
-      obeys-refused _ s rest entry PlaceTaken (h .words) refl
-      (at-spawn-runs s rest h ∙ ap (λ (b : Bool). need b placeTaken (need (not (inPool s f)) placeTaken (wanted s rest h))) (ltb-over f (s .sizes .places) (omega (arith, places s rest h))))
+  unfolding OfState need numberOf valueOf
+  spawn-beyond n places beyond = does-refused (spawnInto p f) entry PlaceTaken refl (λ s rest h.
+      at-spawn-runs s rest h ∙ ap (λ (b : Bool). need b placeTaken (need (not (inPool s f)) placeTaken (wanted s rest h))) (ltb-over f (s .sizes .places) (omega (arith, places s rest h))))
 
   pub spawn-taken : (b : Bool) → OfState entry (λ s. b ≡ inPool s f) → b ≡ true → Does (spawnInto p f) entry entry PlaceTaken
-  unfolding Does OfState need numberOf valueOf
-  spawn-taken b pool e s rest h =
-      obeys-refused _ s rest entry PlaceTaken (h .words) refl
-      (at-spawn-runs s rest h
+  unfolding OfState need numberOf valueOf
+  spawn-taken b pool e = does-refused (spawnInto p f) entry PlaceTaken refl (λ s rest h.
+      at-spawn-runs s rest h
       ∙ ap (λ (x : Bool). need (ltb f (s .sizes .places)) placeTaken (need (not x) placeTaken (wanted s rest h))) (sym (pool s rest h) ∙ e)
       ∙ twice-refused (ltb f (s .sizes .places)))
 
@@ -85,11 +87,11 @@ module _ (entry : List ℕ) (p f : ℕ) (about-spawn : OfState entry (About p Sp
     child-told s rest h = child-wrote s rest h .answer ∙ ap (fittedOf (length (spawning-at s rest h .0))) (sized s rest h)
 
     pub child-nothing : own ≡ Nothing → Does (spawnInto p f) entry entry LargeAnswer
-    unfolding Does
+    unfolding Answers perform
     child-nothing e s rest h = absurd (fitted-nothing _ _ (sym e ∙ child-told s rest h))
 
     pub child-large : own ≡ TooLarge → Does (spawnInto p f) entry entry LargeAnswer
-    unfolding Does
+    unfolding Answers perform
     child-large e s rest h =
         true-not-false (leb-of (length (spawning-at s rest h .0)) (s .sizes .words) (child-fits s rest h)) (fitted-large _ _ (sym e ∙ child-told s rest h))
 
@@ -132,7 +134,7 @@ module _ (entry : List ℕ) (p f : ℕ) (about-spawn : OfState entry (About p Sp
       )
 
       pub spawn-does : (exit : List ℕ) (r : Answer) → OfState entry (Free f) → MakesSpawn p f next row (take m first) entry exit r → Does (spawnInto p f) entry exit r
-      unfolding Does OfState MakesSpawn Made need
+      unfolding Answers perform OfState MakesSpawn Made need
       spawn-does exit r free made s rest h =
           let g = free s rest h in
           let drawn = wrote-drawn (s .sizes .words) _ old′ row next (next-wrote s rest h) (sized′ s rest h) in

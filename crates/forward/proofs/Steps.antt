@@ -16,19 +16,24 @@ use Rattle.step.specs.declared.step.Next.{Next}
 use Rattle.step.specs.declared.step.Next.the-variants.{Nothing, TooLarge, Row}
 use Rattle.rules.specs.State.{Kind, seq, send, rec, self, check, asRec, Process, State, inPool}
 use Rattle.rules.specs.Sound.{Sound}
+use Rattle.rules.specs.Answers.{stuck as stuckNumber}
 use Rattle.rules.specs.Commands.{step, spawnInto, Beside, nothing, ownQueue, refuse, need, Picked, picked, pick, making, receiving, stepping, spawning, atProcess, run}
+use Rattle.rules.specs.Replies.{perform}
 use Rattle.rules.proofs.Messages.{pick-is}
 use Rattle.store.specs.Layout.{kindSeq, kindSend, kindSelf, kindCheck, kindNumber, numberIn, image}
 use Rattle.store.specs.Image.{IsImage}
 use Rattle.calls.specs.Numbers.{numberOf, valueOf}
 use Rattle.calls.specs.declared.answers.Answer.{Answer}
 use Rattle.calls.specs.declared.answers.Answer.the-variants.{Finished as FinishedAnswer, Waiting, Stuck as StuckAnswer, WrongCommand, TooLarge as LargeAnswer}
-use Rattle.reading.specs.Reads.{Holds, OfState}
+use Rattle.reading.specs.Reads.{Holds, OfState, Lives}
 use Rattle.writing.specs.Writes.{CanTake}
-use Rattle.forward.specs.Forward.{Obeys, Does, Lives, about, About, Sized, SeqRow, SendRow, WordRow, PickIs, PickedRow, Within, processAt, Made, MakesEntry, MakesRec}
+use Rattle.calls.specs.Answering.{Answers, Does, Obeys}
+use Rattle.forward.specs.Forward.{about, About, Sized, SeqRow, SendRow, WordRow, PickIs, PickedRow, Within, processAt, Made, MakesEntry, MakesRec}
 use Rattle.forward.specs.declared.picking.Picked.{Picked as Told}
-use Rattle.forward.proofs.Living.{process-is, place-is, control-good, laws-of, sizes-of, at-image}
-use Rattle.forward.proofs.Made.{fitted-nothing, fitted-row, wrote-drawn, wrote-length, wrote-within, obeys-refused, obeys-same, made-large}
+use Rattle.calls.proofs.Answering.{obeys-refused, obeys-same, does-refused}
+use Rattle.reading.proofs.Holding.{at-image}
+use Rattle.forward.proofs.Living.{process-is, place-is, control-good, laws-of, sizes-of}
+use Rattle.forward.proofs.Made.{fitted-nothing, fitted-row, wrote-drawn, wrote-length, wrote-within, made-large}
 
 -- ---- what a process that does so is about to do
 
@@ -88,16 +93,14 @@ about-lives l p d a s rest h = a s rest h .lives
 -- a refusal that `stepping` or `spawning` gives at once
 module _ (entry : List ℕ) (p : ℕ) (d : Doing) (lives : OfState entry (Lives p)) (is : OfState entry (Doings p d)) where
   step-refused : (told : Doing) (r : Answer) → d ≡ told → valueOf r ≡ 0 → ((s : State) (w : Work) → WorkFor told w → stepping s p (processAt s p) w ≡ refuse (numberOf r)) → Does (step p) entry entry r
-  unfolding Does OfState
-  step-refused told r e v f s rest h =
-      obeys-refused _ s rest entry r (h .words) v
-      (step-runs s (h .sound) p (lives s rest h) refl ∙ f s (about s p) (for-doing _ told (sym e ∙ is s rest h)))
+  unfolding OfState
+  step-refused told r e v f = does-refused (step p) entry r v (λ s rest h.
+      step-runs s (h .sound) p (lives s rest h) refl ∙ f s (about s p) (for-doing _ told (sym e ∙ is s rest h)))
 
   spawn-refused : (f : ℕ) (told : Doing) (r : Answer) → d ≡ told → valueOf r ≡ 0 → ((s : State) (w : Work) → WorkFor told w → spawning s p (processAt s p) f w ≡ refuse (numberOf r)) → Does (spawnInto p f) entry entry r
-  unfolding Does OfState
-  spawn-refused f told r e v g s rest h =
-      obeys-refused _ s rest entry r (h .words) v
-      (spawn-runs s (h .sound) p (lives s rest h) refl f ∙ g s (about s p) (for-doing _ told (sym e ∙ is s rest h)))
+  unfolding OfState
+  spawn-refused f told r e v g = does-refused (spawnInto p f) entry r v (λ s rest h.
+      spawn-runs s (h .sound) p (lives s rest h) refl f ∙ g s (about s p) (for-doing _ told (sym e ∙ is s rest h)))
 
   pub step-finished : d ≡ Finished → Does (step p) entry entry FinishedAnswer
   unfolding WorkFor stepping numberOf valueOf
@@ -162,7 +165,7 @@ module _ (entry old row : List ℕ) (p : ℕ) (next : Next) (sized : OfState ent
         make-ready Seq i about-seq (x .0, at-image (SeqRow p old row next) i wrote (x .0) (x .1))
 
     pub seq-does : (exit : List ℕ) (r : Answer) → MakesEntry p kindSeq 0 next row entry exit r → Does (step p) entry exit r
-    unfolding WorkFor SeqRow Does OfState MakesEntry stepping kindNumber numberIn asRec
+    unfolding WorkFor SeqRow Answers perform OfState MakesEntry stepping kindNumber numberIn asRec
     seq-does exit r m s rest h =
         let a = about-seq s rest h in
         let x = for-doing _ Seq (a .is) in
@@ -176,7 +179,7 @@ module _ (entry old row : List ℕ) (p : ℕ) (next : Next) (sized : OfState ent
         make-ready (Send t) i about-send (x .1, at-image (SendRow p old row next) i wrote t (x .0) (x .1) (x .2))
 
     pub send-does : (exit : List ℕ) (r : Answer) → b ≡ true → OfState entry (SendRow p old row next) → MakesEntry p kindSend 0 next row entry exit r → Does (step p) entry exit r
-    unfolding WorkFor SendRow Does OfState MakesEntry stepping need kindNumber numberIn asRec
+    unfolding WorkFor SendRow Answers perform OfState MakesEntry stepping need kindNumber numberIn asRec
     send-does exit r live wrote m s rest h =
         let a = about-send s rest h in
         let x = for-doing _ (Send t) (a .is) in
@@ -192,7 +195,7 @@ module _ (entry old row : List ℕ) (p : ℕ) (next : Next) (sized : OfState ent
         make-ready Own i about-self (x .0 p, at-image (WordRow p w old row next) i wrote .of-self (x .0) p (x .1) e)
 
     pub self-does : (exit : List ℕ) (r : Answer) → OfState entry (About p Own) → w ≡ word tagPid 0 p → MakesEntry p kindSelf 0 next row entry exit r → Does (step p) entry exit r
-    unfolding WorkFor Does OfState MakesEntry stepping kindNumber numberIn asRec
+    unfolding WorkFor Answers perform OfState MakesEntry stepping kindNumber numberIn asRec
     self-does exit r about-self e m s rest h =
         let a = about-self s rest h in
         let x = for-doing _ Own (a .is) in
@@ -205,7 +208,7 @@ module _ (entry old row : List ℕ) (p : ℕ) (next : Next) (sized : OfState ent
         make-ready (Check k) i about-check (x .0, at-image (WordRow p w old row next) i wrote .of-check k (x .0) (x .1) e)
 
     pub check-does : (k : ℕ) (exit : List ℕ) (r : Answer) → OfState entry (About p (Check k)) → w ≡ word tagAtom 0 k → MakesEntry p kindCheck k next row entry exit r → Does (step p) entry exit r
-    unfolding WorkFor Does OfState MakesEntry stepping kindNumber numberIn asRec
+    unfolding WorkFor Answers perform OfState MakesEntry stepping kindNumber numberIn asRec
     check-does k exit r about-check e m s rest h =
         let a = about-check s rest h in
         let x = for-doing _ (Check k) (a .is) in
@@ -213,12 +216,11 @@ module _ (entry old row : List ℕ) (p : ℕ) (next : Next) (sized : OfState ent
 
 -- a target that is not in the pool
 pub send-stuck : (entry : List ℕ) (p t : ℕ) (b : Bool) → OfState entry (About p (Send t)) → OfState entry (λ s. b ≡ inPool s t) → b ≡ false → Does (step p) entry entry StuckAnswer
-unfolding WorkFor Does OfState stepping need numberOf valueOf
-send-stuck entry p t b about-send pool gone s rest h =
+unfolding WorkFor OfState stepping need numberOf valueOf
+send-stuck entry p t b about-send pool gone = does-refused (step p) entry StuckAnswer refl (λ s rest h.
     let a = about-send s rest h in
     let x = for-doing _ (Send t) (a .is) in
-    obeys-refused _ s rest entry StuckAnswer (h .words) refl
-    (step-runs s (h .sound) p (a .lives) (x .2) ∙ ap (λ (y : Bool). need y 6 (making s p (processAt s p) (send t (x .0)) (x .1) nothing)) (sym (pool s rest h) ∙ gone))
+    step-runs s (h .sound) p (a .lives) (x .2) ∙ ap (λ (y : Bool). need y stuckNumber (making s p (processAt s p) (send t (x .0)) (x .1) nothing)) (sym (pool s rest h) ∙ gone))
 
 -- the parts of a word fit their places
 pub own-small : (l : List ℕ) (p : ℕ) (d : Doing) → IsImage l → OfState l (About p d) → p < 65536
@@ -257,7 +259,7 @@ module _ (entry old row : List ℕ) (p : ℕ) (r : Told) (about-receive : OfStat
   waits s rest (some (picked older m newer whole)) e k f = absurd (fitted-nothing (length whole) (length old) (sym f ∙ k .1 .answer))
 
   pub receive-waits : r .next ≡ Nothing → Does (step p) entry entry Waiting
-  unfolding Does
+  unfolding Answers perform
   receive-waits f s rest h = obeys-same _ _ s rest entry Waiting (receive-runs s rest h) (waits s rest (pick (taking s rest h .0) (s .queues p)) (h .words) (pick-told s rest h) f)
 
   module _ (sized : OfState entry (Sized old)) where
@@ -270,7 +272,7 @@ module _ (entry old row : List ℕ) (p : ℕ) (r : Told) (about-receive : OfStat
         (made-large s p (rec older m newer) (ownQueue (older ++ newer)) rest entry row (h .words))
 
     pub receive-large : r .next ≡ TooLarge → Does (step p) entry entry LargeAnswer
-    unfolding Does
+    unfolding Answers perform
     receive-large f s rest h = obeys-same _ _ s rest entry LargeAnswer (receive-runs s rest h) (too-large s rest (pick (taking s rest h .0) (s .queues p)) h (pick-told s rest h) f)
 
     takes-one : (s : State) (rest exit : List ℕ) (a : Answer) (n : ℕ) (takes : (List ℕ → Option (List ℕ))) (o : Option Picked) → pick takes (s .queues p) ≡ o → Holds entry s rest → PickIs o old row r → r .next ≡ Row n
@@ -282,7 +284,7 @@ module _ (entry old row : List ℕ) (p : ℕ) (r : Told) (about-receive : OfStat
         (m s rest older x newer h (pick-is takes (s .queues p) q) (k .0))
 
     pub receive-does : (n : ℕ) (exit : List ℕ) (a : Answer) → r .next ≡ Row n → MakesRec p (r .place) n row entry exit a → Does (step p) entry exit a
-    unfolding Does
+    unfolding Answers perform
     receive-does n exit a f m s rest h =
         obeys-same _ _ s rest exit a (receive-runs s rest h) (takes-one s rest exit a n (taking s rest h .0) (pick (taking s rest h .0) (s .queues p)) refl h (pick-told s rest h) f m)
 

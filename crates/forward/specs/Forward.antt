@@ -1,7 +1,7 @@
 -- What the functions of step, spawn and deliver promise, said of the state that a store holds. Assumes nothing: these are definitions.
 use Prim.Native.Nat.{ℕ, _≤_, _<_}
 use mathlib.Core.Path.{_≡_}
-use mathlib.Core.Bool.{true, false}
+use mathlib.Core.Bool.{false}
 use mathlib.Core.Option.{Option, none, some}
 use mathlib.Core.List.{List, _∷_, _++_}
 use lib.ListN.{length, take}
@@ -13,34 +13,18 @@ use Rattle.step.specs.Becomes.{RowIs}
 use Rattle.step.specs.declared.work.Doing.{Doing}
 use Rattle.step.specs.declared.step.Next.{Next}
 use Rattle.step.specs.declared.step.Next.the-variants.{Nothing, TooLarge, Row}
-use Rattle.rules.specs.State.{Message, letter, Kind, rec, spawn, asSend, asRec, Entry, Process, State, historyAt, entryAt, inPool}
-use Rattle.rules.specs.Flight.{sent}
+use Rattle.rules.specs.State.{Message, Kind, rec, spawn, asRec, Process, State, historyAt, inPool}
 use Rattle.rules.specs.Sound.{SentTo}
 use Rattle.rules.specs.Load.{newProcess}
-use Rattle.rules.specs.Commands.{Command, Beside, nothing, ownQueue, other, Plan, picked, pick, making, run}
+use Rattle.rules.specs.Commands.{Beside, nothing, ownQueue, other, picked, pick, making}
 use Rattle.rules.specs.Commands
-use Rattle.rules.specs.Replies.{ofPlan}
 use Rattle.store.specs.Layout.{kindNumber, numberIn, nameWord}
-use Rattle.calls.specs.Calls.{outcome, stored}
-use Rattle.calls.specs.Numbers.{numberOf, valueOf}
 use Rattle.calls.specs.declared.answers.Answer.{Answer}
-use Rattle.reading.specs.Reads.{Holds, controlAt}
+use Rattle.calls.specs.Answering.{Obeys}
+use Rattle.reading.specs.Reads.{Holds, Lives, controlAt}
 use Rattle.forward.specs.declared.picking.Picked.{Picked}
 
--- ---- what is answered and left
-
--- the answer and the words that are left are those of a plan on the state, with the words past it as they were
-abbrev pub Obeys : Plan → State → (rest exit : List ℕ) → Answer → Type 0
-Obeys plan s rest exit r = outcome (numberOf r) (valueOf r) exit ≡ stored (ofPlan s plan) rest
-
--- of the state that the words hold, they are those of the command
-unfoldable pub Does : Command → (entry exit : List ℕ) → Answer → Type 0
-Does c entry exit r = (s : State) (rest : List ℕ) → Holds entry s rest → Obeys (run c s) s rest exit r
-
 -- ---- what a process is about to do
-
-abbrev pub Lives : ℕ → State → Type 0
-Lives p s = inPool s p ≡ true
 
 unfoldable pub about : State → ℕ → Work
 about s p = work (s .module′) (controlAt s p)
@@ -134,14 +118,3 @@ MakesSpawn p f next row first entry exit r =
 pub record Free (f : ℕ) (s : State) : Type 0 where
   pub is-place : f < s .sizes .places
   pub is-free : inPool s f ≡ false
-
--- ---- a message delivered
-
--- entry i of p is its send of that count
-pub record SendAt (p k i : ℕ) (s : State) : Type 0 where
-  pub entry : Entry
-  pub target : ℕ
-  pub value : List ℕ
-  pub stands : entryAt (historyAt s p) i ≡ some entry
-  pub is-send : asSend (entry .kind) ≡ some (letter target value)
-  pub is-kth : sent (historyAt s p) k ≡ some (letter target value)

@@ -1,1 +1,2 @@
+-- What the functions of step, spawn and deliver promise.
 pub mod Forward

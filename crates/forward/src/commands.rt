@@ -14,8 +14,8 @@ use writing::posting::post;
 ghost use Rattle.rules.specs.Commands.{step as stepOf, spawnInto, deliver as deliverOf};
 ghost use Rattle.store.specs.Image.{IsImage};
 ghost use Rattle.calls.specs.Numbers.{CommandCall};
-ghost use Rattle.reading.specs.Reads.{OfState};
-ghost use Rattle.forward.specs.Forward.{SendAt, Does};
+ghost use Rattle.reading.specs.Reads.{OfState, SendAt};
+ghost use Rattle.calls.specs.Answering.{Does};
 
 // The most words that a control may have.
 const WIDEST: usize = 255;

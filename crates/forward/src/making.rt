@@ -12,9 +12,9 @@ ghost use lib.Dec.{ltb};
 ghost use lib.ListN.{length};
 ghost use Rattle.rules.specs.State.{historyAt};
 ghost use Rattle.store.specs.Image.{IsImage};
-ghost use Rattle.reading.specs.Reads.{OfState};
+ghost use Rattle.reading.specs.Reads.{OfState, Lives};
 ghost use Rattle.writing.specs.Writes.{CanTake, CanSpawn};
-ghost use Rattle.forward.specs.Forward.{Lives, Within, Sized, MakesEntry, MakesRec, MakesSpawn};
+ghost use Rattle.forward.specs.Forward.{Within, Sized, MakesEntry, MakesRec, MakesSpawn};
 
 // Whether p may have one entry more.
 fn has_room(store: &[u32], p: usize) -> bool

@@ -11,8 +11,8 @@ use step::work::about_to;
 ghost use mathlib.Core.Path.{_≡_};
 ghost use Rattle.store.specs.Image.{IsImage};
 ghost use Rattle.step.specs.Controls.{doingOf};
-ghost use Rattle.reading.specs.Reads.{OfState};
-ghost use Rattle.forward.specs.Forward.{Lives, about, SeqRow, SendRow, WordRow, ChildRow};
+ghost use Rattle.reading.specs.Reads.{OfState, Lives};
+ghost use Rattle.forward.specs.Forward.{about, SeqRow, SendRow, WordRow, ChildRow};
 
 // What p is about to do.
 pub fn doing(store: &[u32], p: usize) -> Doing

@@ -8,8 +8,8 @@ use reading::state::queue;
 use step::control::taken;
 use step::step::Next;
 ghost use Rattle.store.specs.Image.{IsImage};
-ghost use Rattle.reading.specs.Reads.{OfState};
-ghost use Rattle.forward.specs.Forward.{Lives, IsSent, ValueSent, TakenRow, PickedRow};
+ghost use Rattle.reading.specs.Reads.{OfState, Lives};
+ghost use Rattle.forward.specs.Forward.{IsSent, ValueSent, TakenRow, PickedRow};
 
 // The value of the message of that name, which was sent to p.
 fn content<'a>(store: &'a [u32], p: usize, name: u32) -> &'a [u32]

@@ -23,8 +23,9 @@ use term::words::word_of;
 ghost use Rattle.rules.specs.Commands.{step as stepOf, spawnInto};
 ghost use Rattle.step.specs.declared.work.Doing.the-variants.{Seq, Send, Receive, Spawn, Own, Check};
 ghost use Rattle.store.specs.Image.{IsImage};
-ghost use Rattle.reading.specs.Reads.{OfState};
-ghost use Rattle.forward.specs.Forward.{Lives, About, Sized, Free, Does};
+ghost use Rattle.reading.specs.Reads.{OfState, Lives};
+ghost use Rattle.calls.specs.Answering.{Does};
+ghost use Rattle.forward.specs.Forward.{About, Sized, Free};
 
 fn step_seq(store: &mut [u32], p: u32, out: &mut [u32]) -> Answer
     requires { ⌜ IsImage (now store) × OfState (now store) (About p Seq) × OfState (now store) (Sized (now out)) ⌝ }

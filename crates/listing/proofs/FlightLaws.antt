@@ -1,65 +1,44 @@
 -- Laws of the messages in flight of a listing.
-use Prim.Native.Nat.{ℕ, zero, suc, _+_, _-_, _*_, _/_, _%_, _≤_, _<_}
+use Prim.Native.Nat.{ℕ, _+_, _-_, _*_, _/_, _%_, _≤_, _<_}
 use mathlib.Core.Path.{_≡_, refl, sym, _∙_, ap}
-use mathlib.Core.Bool.{Bool, true, false, not, _&&_}
-use mathlib.Core.Logic.{_⊎_, inl, inr}
-use mathlib.Core.Option.{Option, none, some}
+use mathlib.Core.Bool.{Bool, true, false, not}
+use mathlib.Core.Option.{none, some}
 use mathlib.Core.List.{List, [], _∷_, _++_, map, map-append, append-nil, append-assoc}
 use native.Mathlib.Omega.{arith}
 use native.Mathlib.Numerals.{add-one}
-use lib.Dec.{ltb}
 use lib.ListN.{length, drop}
 use Rattle.lists.specs.Lists.{keep, joined, upTo}
-use Rattle.lists.proofs.Tests.{true-or-false, true-not-false, some-injective, ltb-true, ltb-false, not-true, not-false}
 use Rattle.lists.proofs.Lists.{keep-nil}
-use Rattle.rules.specs.State.{Letter, letter, asSend, Entry, State, historyAt, entryAt, inPool}
+use Rattle.rules.specs.State.{Letter, letter, Entry, State, historyAt}
 use Rattle.rules.specs.Flight.{sends, sent, hasCome, flies, inFlight, Name, name, flightOf, flight}
 use Rattle.rules.specs.Text.{spaced, line, bytes, lineFeed, space}
 use Rattle.rules.specs.Listing.{nameText, flightText}
 use Rattle.rules.specs.Sound.{Sound}
 use Rattle.store.specs.Image.{IsImage}
-use Rattle.store.specs.Layout.{nameBase}
-use Rattle.store.proofs.SoundStates.{sizes-in}
+use Rattle.store.specs.Layout.{mostEntries, nameBase}
+use Rattle.store.proofs.SoundStates.{sizes-in, in-places}
 use Rattle.store.proofs.Histories.{sends-few, sent-below}
 use Rattle.text.specs.Written.{far, onward, Wrote, gap}
 use Rattle.text.proofs.WritingLaws.{wrote-none, wrote-then, wrote-line}
-use Rattle.reading.specs.Reads.{Holds, OfState, IsPlace, IsSend, OfSend, oldest, SendFound}
+use Rattle.reading.specs.Reads.{OfState, IsPlace, IsSend, OfSend, SendAt, oldest, SendFound}
 use Rattle.reading.specs.declared.found.Found.{Found}
 use Rattle.reading.specs.declared.found.Found.the-variants.{Nowhere, At}
 use Rattle.listing.specs.declared.flying.Row.{Row}
 use Rattle.listing.specs.Listed.{follow, behind, Followed, nameIf, flyingTexts, flyingLine}
-use Rattle.listing.proofs.StateLaws.{of-held}
+use Rattle.reading.proofs.Holding.{at-image}
+use Rattle.reading.proofs.MailReads.{found-at}
 use Rattle.listing.proofs.ProcessLaws.{kept-next, kept-same}
 
 -- ---- whether a message is in flight
 
--- entry i of p is its send of that count
-record SentAt (s : State) (p k i : ℕ) : Type 0 where
-  entry : Entry
-  target : ℕ
-  value : List ℕ
-  stands : entryAt (historyAt s p) i ≡ some entry
-  sends-it : asSend (entry .kind) ≡ some (letter target value)
-  is : sent (historyAt s p) k ≡ some (letter target value)
-
-sent-at : (s : State) (p k i : ℕ) (r : Found) → r ≡ At i → SendFound (historyAt s p) k r → SentAt s p k i
-unfolding SendFound
-sent-at s p k i r e f = have (rw e at f)
-  where
-    have : SendFound (historyAt s p) k (At i) → SentAt s p k i
-    have (e, letter t v, stands, sends-it, is) = record { entry = e; target = t; value = v; stands = stands; sends-it = sends-it; is = is }
+-- the send that was found
+sent-at : (s : State) (p k i : ℕ) (r : Found) → r ≡ At i → SendFound (historyAt s p) k r → SendAt p k i s
+sent-at s p k i r e f = found-at s p k i (rw e at f)
 
 -- counts of sends are small
-sent-small : (s : State) (p k : ℕ) {l : Letter} → Sound s → sent (historyAt s p) k ≡ some l → k < 64
+sent-small : (s : State) (p k : ℕ) {l : Letter} → Sound s → sent (historyAt s p) k ≡ some l → k < mostEntries
 sent-small s p k x e =
     omega (arith, sent-below (historyAt s p) k e, sends-few (historyAt s p), x .history-fits p, sizes-in (s .sizes) (x .sizes-pass) .entries-high)
-
--- a place of the pool is a place
-pool-place : (s : State) (t : ℕ) → Sound s → inPool s t ≡ true → t < s .sizes .places
-pool-place s t x e = elim (true-or-false (ltb t (s .sizes .places))) [
-  | inl h ↦ ltb-true t (s .sizes .places) h
-  | inr h ↦ true-not-false e (x .pool-ends t (ltb-false t (s .sizes .places) h))
-]
 
 flies-so : (s : State) (p k t : ℕ) (v : List ℕ) (b : Bool) → Sound s → sent (historyAt s p) k ≡ some (letter t v) → b ≡ hasCome s p k t → not b ≡ inFlight s p k
 unfolding inFlight flies
@@ -74,29 +53,29 @@ module _ (l : List ℕ) (p k : ℕ) (r : Found) (found : OfState l (λ s. SendFo
   module _ (i : ℕ) (at : r ≡ At i) where
     pub is-send : OfState l (IsSend p i)
     unfolding OfState
-    is-send s rest x = let f = sent-at s p k i r at (found s rest x) in record { entry = f .entry; target = f .target; value = f .value; stands = f .stands; is-send = f .sends-it }
+    is-send s rest x = let f = sent-at s p k i r at (found s rest x) in record { entry = f .entry; target = f .target; value = f .value; stands = f .stands; is-send = f .is-send }
 
-    pub count-small : IsImage l → k < 64
-    count-small j = sent-small (j .state) p k (j .sound) (sent-at (j .state) p k i r at (of-held (λ s. SendFound (historyAt s p) k r) j found) .is)
+    pub count-small : IsImage l → k < mostEntries
+    count-small j = sent-small (j .state) p k (j .sound) (sent-at (j .state) p k i r at (at-image (λ s. SendFound (historyAt s p) k r) j found) .is-kth)
 
     module _ (t : ℕ) (goes : OfState l (OfSend p i (λ target value. t ≡ target))) where
       pub target-place : OfState l (IsPlace t)
       unfolding OfState OfSend
       target-place s rest x =
           let f = sent-at s p k i r at (found s rest x) in
-          let e : t ≡ f .target = goes s rest x (f .entry) (f .target) (f .value) (f .stands) (f .sends-it) in
-          let g = pool-place s (f .target) (x .sound) (x .sound .targets-in-pool p k (f .target) (f .value) (f .is)) in
+          let e : t ≡ f .target = goes s rest x (f .entry) (f .target) (f .value) (f .stands) (f .is-send) in
+          let g = in-places s (x .sound) (f .target) (x .sound .targets-in-pool p k (f .target) (f .value) (f .is-kth)) in
           omega arith
 
       pub flies-unless-come : (b : Bool) (n : ℕ) → n ≡ p * nameBase + k → OfState l (λ s. b ≡ hasCome s (n / nameBase) (n % nameBase) t) → OfState l (λ s. not b ≡ inFlight s p k)
       unfolding OfState OfSend
       flies-unless-come b n e come s rest x =
           let f = sent-at s p k i r at (found s rest x) in
-          let e′ : t ≡ f .target = goes s rest x (f .entry) (f .target) (f .value) (f .stands) (f .sends-it) in
-          let small = sent-small s p k (x .sound) (f .is) in
+          let e′ : t ≡ f .target = goes s rest x (f .entry) (f .target) (f .value) (f .stands) (f .is-send) in
+          let small = sent-small s p k (x .sound) (f .is-kth) in
           let q : n / nameBase ≡ p = omega arith in
           let m : n % nameBase ≡ k = omega arith in
-          flies-so s p k (f .target) (f .value) b (x .sound) (f .is) (come s rest x ∙ (λ i. hasCome s (q i) (m i) (e′ i)))
+          flies-so s p k (f .target) (f .value) b (x .sound) (f .is-kth) (come s rest x ∙ (λ i. hasCome s (q i) (m i) (e′ i)))
 
 -- ---- rows of names
 

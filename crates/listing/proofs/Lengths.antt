@@ -1,6 +1,6 @@
 -- How long a listing of a sound state is at most: its length fits a word of 32 bits by far.
 use Prim.Native.Nat.{ℕ, zero, suc, _+_, _*_, _/_, _%_, _≤_, _<_}
-use mathlib.Core.Path.{_≡_, refl, sym, _∙_, ap}
+use mathlib.Core.Path.{_≡_, refl}
 use mathlib.Core.Bool.{Bool, true, false}
 use mathlib.Core.Option.{Option, none, some}
 use mathlib.Core.List.{List, [], _∷_, _++_, map}
@@ -12,12 +12,11 @@ use Rattle.lists.specs.Lists.{All, keep, joined, upTo}
 use Rattle.lists.proofs.All.{all-any, all-append, all-map, all-so, all-joined, all-left}
 use Rattle.lists.proofs.Blocks.{block-in, length-upTo}
 use Rattle.rules.specs.State.{Message, Kind, seq, send, rec, spawn, self, check, Entry, Process, State, historyOf, historyAt, inPool}
-use Rattle.rules.specs.Flight.{sends, taken, inFlight, Name, name, flightOf, flight}
+use Rattle.rules.specs.Flight.{sends, taken, inFlight, name, flightOf, flight}
 use Rattle.rules.specs.Sound.{SentTo, Sound}
 use Rattle.rules.specs.Text.{bytes, digit, decimalIn, decimal, hexIn, hexDigit, hex, spaced, line, point}
 use Rattle.rules.specs.Listing.{kindName, newestName, nameText, messageText, flightText, processLines, listing}
 use Rattle.store.proofs.SoundStates.{sizes-in, numbered, storable}
-use Rattle.store.proofs.Names.{Numbered}
 use Rattle.store.proofs.LayoutLaws.{names-most}
 use Rattle.store.proofs.Histories.{sends-few}
 

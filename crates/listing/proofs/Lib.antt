@@ -1,4 +1,4 @@
-pub mod StateLaws
+-- What is written is the listing of the state.
 pub mod ProcessLaws
 pub mod FlightLaws
 pub mod Lengths

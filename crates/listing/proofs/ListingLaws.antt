@@ -1,30 +1,28 @@
 -- Laws of the whole listing and of its answer.
 use Prim.Native.Nat.{ℕ, _≤_, _<_}
 use mathlib.Core.Path.{_≡_, refl, sym, _∙_, ap}
-use mathlib.Core.Bool.{Bool, true, false}
+use mathlib.Core.Bool.{Bool, false}
 use mathlib.Core.List.{List, [], _∷_, _++_}
 use native.Mathlib.Omega.{arith}
-use lib.ListN.{length, take, drop}
+use lib.ListN.{length, drop}
 use Rattle.lists.specs.Lists.{keep, upTo}
 use Rattle.lists.specs.Decides.{Decides}
-use Rattle.lists.proofs.Tests.{true-not-false, leb-of, leb-over, choose-true, choose-false}
+use Rattle.lists.proofs.Tests.{leb-of, leb-over, choose-true, choose-false}
 use Rattle.lists.proofs.Decides.{refuted}
 use Rattle.rules.specs.Answers.{done}
 use Rattle.rules.specs.State.{State, inPool}
-use Rattle.rules.specs.Sound.{Sound}
-use Rattle.rules.specs.Text.{line}
 use Rattle.rules.specs.Listing.{listing}
-use Rattle.store.specs.Layout.{image}
 use Rattle.store.specs.Image.{IsImage}
-use Rattle.calls.specs.Calls.{outcome, OfStore, written, ListingCall}
+use Rattle.calls.specs.Calls.{outcome, written, ListingCall}
 use Rattle.calls.specs.Numbers.{numberOf, valueOf, Lists}
 use Rattle.calls.specs.declared.answers.Answer.the-variants.{Done, NotAState, NoRoom}
 use Rattle.text.specs.Written.{far, Wrote}
 use Rattle.text.specs.Lines.{processesLine}
 use Rattle.text.proofs.WritingLaws.{wrote-then, wrote-length, wrote-fits, measured-fits, measured-over}
-use Rattle.reading.specs.Reads.{Holds, OfState}
+use Rattle.reading.specs.Reads.{OfState}
 use Rattle.listing.specs.Listed.{placesText, flyingLine}
-use Rattle.listing.proofs.StateLaws.{of-held}
+use Rattle.calls.proofs.Answering.{without-state, with-state}
+use Rattle.reading.proofs.Holding.{at-image}
 use Rattle.listing.proofs.Lengths.{listing-most}
 
 pub whole-listing : (l : List ℕ) (count b b′ e : ℕ) (old mid mid′ new : List ℕ) → OfState l (λ s. count ≡ length (keep (inPool s) (upTo (s .sizes .places)))) → Wrote (processesLine count) 0 old mid b
@@ -37,15 +35,12 @@ whole-listing l count b b′ e old mid mid′ new n w v f s rest x = wrote-then 
 module _ (l out : List ℕ) where
   pub lists-no-state : (b : Bool) → Decides (IsImage l) b → b ≡ false → Lists l out out NotAState
   unfolding Lists ListingCall numberOf valueOf
-  lists-no-state b d e = record {
-    on-image = λ s rest sound words. true-not-false (d .complete (record { state = s; rest = rest; sound = sound; words = words })) e;
-    elsewhere = λ n. refl;
-  }
+  lists-no-state b d e = without-state (refuted d e)
 
   module _ (is : IsImage l) (measured : ℕ) (room part : List ℕ) (length-is : OfState l (λ s. Wrote (listing s) 0 room part measured)) (empty : length room ≡ 0) (short : length out < far) where
     -- nothing was written into the empty part
     nothing : part ++ out ≡ out
-    nothing = go part (wrote-length (of-held (λ s. Wrote (listing s) 0 room part measured) is length-is) ∙ empty)
+    nothing = go part (wrote-length (at-image (λ s. Wrote (listing s) 0 room part measured) is length-is) ∙ empty)
       where
         go : (xs : List ℕ) → length xs ≡ 0 → xs ++ out ≡ out
         go [] e = refl
@@ -53,22 +48,18 @@ module _ (l out : List ℕ) where
 
     pub lists-no-room : length out < measured → Lists l out (part ++ out) NoRoom
     unfolding Lists ListingCall OfState numberOf valueOf written
-    lists-no-room h = rw nothing (record {
-      on-image = λ s rest sound words. let over = measured-over (length-is s rest (record { sound = sound; words = words })) short h in sym (choose-false _ _ (leb-over (length (listing s)) (length out) over));
-      elsewhere = λ n. absurd (n is);
-    })
+    lists-no-room h = rw nothing (with-state is λ s rest x.
+        let over = measured-over (length-is s rest x) short h in
+        sym (choose-false _ _ (leb-over (length (listing s)) (length out) over)))
 
     pub length-small : measured ≤ length out → measured < 4294967296
     length-small h =
-        let w = of-held (λ s. Wrote (listing s) 0 room part measured) is length-is in
+        let w = at-image (λ s. Wrote (listing s) 0 room part measured) is length-is in
         omega (arith, measured-fits w short h, listing-most (is .state) (is .sound))
 
     pub lists-all : (new : List ℕ) (end : ℕ) → measured ≤ length out → OfState l (λ s. Wrote (listing s) 0 (part ++ out) new end) → Lists l out new (Done measured)
     unfolding Lists ListingCall OfState numberOf valueOf written
-    lists-all new end h f = record {
-      on-image = λ s rest sound words. so s (length-is s rest (record { sound = sound; words = words })) (rw nothing at (f s rest (record { sound = sound; words = words })));
-      elsewhere = λ n. absurd (n is);
-    }
+    lists-all new end h f = with-state is λ s rest x. so s (length-is s rest x) (rw nothing at (f s rest x))
       where
         so : (s : State) → Wrote (listing s) 0 room part measured → Wrote (listing s) 0 out new end → outcome done measured new ≡ written (listing s) out
         so s w v =

@@ -1,23 +1,22 @@
 -- Laws of the processes of a listing.
-use Prim.Native.Nat.{ℕ, zero, suc, _+_, _-_, _≤_, _<_}
+use Prim.Native.Nat.{ℕ, _+_, _-_, _<_}
 use Prim.Native.String.{String}
 use mathlib.Core.Path.{_≡_, refl, sym, _∙_, ap}
 use mathlib.Core.Bool.{Bool, true, false, cond}
-use mathlib.Core.Option.{Option, none, some}
+use mathlib.Core.Option.{Option, some}
 use mathlib.Core.List.{List, [], _∷_, _++_, map}
 use native.Mathlib.Omega.{arith}
 use native.Mathlib.Numerals.{add-one}
 use lib.Dec.{eqb}
 use lib.ListN.{length, length-append}
 use Rattle.lists.specs.Lists.{All, keep, joined, upTo}
-use Rattle.lists.proofs.Tests.{true-not-false, eqb-same, eqb-of, eqb-apart, cond-true, cond-false}
+use Rattle.lists.proofs.Tests.{eqb-of, eqb-apart, cond-true}
 use Rattle.lists.proofs.Lists.{keep-nil, keep-true, keep-false}
 use Rattle.lists.proofs.All.{maps-after, map-agree, all-so}
 use Rattle.rules.specs.State.{Message, Kind, seq, send, rec, spawn, self, check, Entry, Process, State, historyOf, historyAt, entryAt, inPool}
-use Rattle.rules.specs.Listing.{kindName, newestName, nameText, messageText, processLines}
+use Rattle.rules.specs.Listing.{kindName, newestName, messageText, processLines}
 use Rattle.rules.proofs.Frame.{process-of, no-process}
 use Rattle.store.specs.Layout.{kindNumber, nameWord}
-use Rattle.store.specs.Image.{IsImage}
 use Rattle.store.proofs.SoundStates.{storable}
 use Rattle.store.proofs.Restoring.{Kept}
 use Rattle.text.specs.Lines.{nameIn, newestText, processText}
@@ -26,9 +25,8 @@ use Rattle.text.specs.declared.listing.Newest.{Newest}
 use Rattle.text.specs.declared.listing.Newest.the-variants.{Seq, Send, Rec, Spawn, Own, Check, Nothing}
 use Rattle.text.proofs.WritingLaws.{wrote-none}
 use Rattle.text.proofs.ListingLaws.{name-in, process-lines, wrote-place}
-use Rattle.reading.specs.Reads.{Holds, OfState, IsPlace, controlOf, controlAt, IsEntry, OfEntry}
+use Rattle.reading.specs.Reads.{OfState, controlOf, controlAt, IsEntry, OfEntry}
 use Rattle.listing.specs.Listed.{Named, placesText}
-use Rattle.listing.proofs.StateLaws.{is-place}
 
 -- ---- kinds
 

@@ -1,1 +1,2 @@
+-- What the parts of the listing promise.
 pub mod Listed

@@ -105,9 +105,6 @@ module _ (l : List ℕ) (s : ℕ) where
       let st = im .state in
       omega (arith, at-image _ im p, at-image _ im nm, sends-low (historyAt st s) i, im .sound .history-fits s, sizes-in (st .sizes) (im .sound .sizes-pass) .entries-high, sizes-in (st .sizes) (im .sound .sizes-pass) .places-high)
 
-  pub place-low : IsImage l → OfState l (IsPlace s) → s < 16
-  place-low im p = omega (arith, at-image _ im p, sizes-in (im .state .sizes) (im .sound .sizes-pass) .places-high)
-
 -- ---- the messages of one sender
 
 -- no message of the sends among the oldest entries flies to q

@@ -8,7 +8,7 @@ use lib.ListN.{length, take, drop, getD}
 use Rattle.rules.specs.State.{Sizes, State}
 use Rattle.rules.specs.Load.{goodSizes}
 use Rattle.store.specs.Image.{IsImage}
-use Rattle.store.specs.Layout.{blocksFrom, slotSize, blockSize, needed, freeSlot, slotWords, slotsAt}
+use Rattle.store.specs.Layout.{blocksFrom, slotSize, blockSize, needed, longestStore, freeSlot, slotWords, slotsAt}
 use Rattle.store.specs.Sizing.{sizesOf}
 use Rattle.store.proofs.LayoutLaws.{slot-within, blocks-most}
 use Rattle.store.proofs.View.{places-word, entries-word, words-word, long-enough, slot-read}
@@ -59,7 +59,7 @@ module _ (l : List ℕ) (i : IsImage l) where
     pub slot-in : at + size ≤ length l
     slot-in = omega (arith, all-in, slot-within (sizesRead l) good-read p j (place-read hp) (index-read hj))
 
-    pub slot-low : at + size ≤ 1338996
+    pub slot-low : at + size ≤ longestStore
     slot-low = omega (arith, slot-within (sizesRead l) good-read p j (place-read hp) (index-read hj), blocks-most (sizesRead l) good-read)
 
     -- and is the slot of that number

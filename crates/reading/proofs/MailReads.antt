@@ -21,7 +21,7 @@ use Rattle.store.specs.Layout.{kindSend, kindRec, nameWord, kindNumber, numberI
 use Rattle.store.proofs.Histories.{sends-few}
 use Rattle.store.proofs.SoundStates.{sizes-in}
 use Rattle.reading.specs.declared.found.Found.the-variants.{Nowhere, At}
-use Rattle.reading.specs.Reads.{Holds, OfState, IsEntry, OfEntry, IsSend, oldest, SendFound}
+use Rattle.reading.specs.Reads.{Holds, OfState, IsEntry, OfEntry, IsSend, SendAt, oldest, SendFound}
 use Rattle.reading.proofs.Holding.{at-image, holding, of-state}
 use Rattle.reading.proofs.Oldest.{send-by-kind, other-by-kind, rec-by-kind, none-by-kind, entry-exists, oldest-all, parted, sends-none, not-sent, sent-there, took-this, took-nothing}
 use Rattle.reading.proofs.Naming.{senderOf, countOf, Small, named-test, member-named, queue-small, taken-small, name-middle}
@@ -276,3 +276,12 @@ module _ (l : List ℕ) (t name : ℕ) where
     pub come-taken : r ≡ false → (x : Bool) → OfState l (λ s. x ≡ any (byName name) (taken (historyAt s t))) → OfState l (λ s. x ≡ hasCome s (senderOf name) (countOf name) t)
     unfolding hasCome
     come-taken e x f = of-state _ λ s rest h. holding _ f s rest h ∙ ap (λ (y : Bool). y || any (byName name) (taken (historyAt s t))) (sym e ∙ in-queue s rest h)
+
+-- ---- the send that was found
+
+letter-at : (s : State) (p k i : ℕ) (e : Entry) (x : Letter) → entryAt (historyAt s p) i ≡ some e → asSend (e .kind) ≡ some x → sent (historyAt s p) k ≡ some x → SendAt p k i s
+letter-at s p k i e (letter target value) a b d = record { entry = e; target = target; value = value; stands = a; is-send = b; is-kth = d }
+
+pub found-at : (s : State) (p k i : ℕ) → SendFound (historyAt s p) k (At i) → SendAt p k i s
+unfolding SendFound
+found-at s p k i x = letter-at s p k i (x .0) (x .1) (x .2) (x .3) (x .4)

@@ -8,14 +8,14 @@ use native.Mathlib.Decide.{decLt}
 use native.Mathlib.Numerals.{add-one}
 use native.Mathlib.Omega.{arith}
 use lib.Dec.{eqb}
-use lib.ListN.{length, take, drop, getD}
+use lib.ListN.{length, take, drop, getD, length-map}
 use Rattle.rules.specs.State.{asRec, Entry, State, historyAt, entryAt, inPool}
 use Rattle.rules.specs.Depends.{queueBefore}
 use Rattle.store.specs.Image.{IsImage}
-use Rattle.store.specs.Layout.{headWords, slotHead, kindFree, kindLive, Slot, freeSlot, slotWords, nameWord, kindNumber, numberIn, entrySlot, slotsAt}
+use Rattle.store.specs.Layout.{headWords, slotHead, mostPlaces, mostEntries, kindFree, kindLive, Slot, freeSlot, slotWords, nameWord, kindNumber, numberIn, entrySlot, slotsAt}
 use Rattle.store.proofs.View.{places-word, entries-word, words-word, module-length-word, module-lent}
-use Rattle.store.proofs.SoundStates.{SizesIn, sizes-in, module-short}
-use Rattle.reading.specs.Reads.{Holds, OfState, IsPlace, IsEntry, OfEntry, controlAt}
+use Rattle.store.proofs.SoundStates.{SizesIn, sizes-in, module-short, in-places}
+use Rattle.reading.specs.Reads.{Holds, OfState, IsPlace, Lives, IsEntry, OfEntry, controlAt}
 use Rattle.reading.proofs.Holding.{at-image, holding, of-state, head-in}
 use Rattle.reading.proofs.Slotted.{kind-there, number-there, head-there, control-in, names-in, control-there, names-there, present-kind, present-control, present-names, entry-there, used-there, free-there, entry-place}
 
@@ -48,6 +48,16 @@ module _ (l : List ℕ) where
   pub sizes-low : (i : IsImage l) → SizesIn (i .state .sizes)
   sizes-low i = sizes-in (i .state .sizes) (i .sound .sizes-pass)
 
+  module _ (i : IsImage l) where
+    pub places-few : (n : ℕ) → OfState l (λ s. n ≡ s .sizes .places) → n ≤ mostPlaces
+    places-few n f = omega (arith, at-image _ i f, sizes-low i .places-high)
+
+    pub place-low : (p : ℕ) → OfState l (IsPlace p) → p < mostPlaces
+    place-low p f = omega (arith, at-image _ i f, sizes-low i .places-high)
+
+    pub entries-few : (p n : ℕ) → OfState l (λ s. n ≡ length (historyAt s p)) → n ≤ mostEntries
+    entries-few p n f = omega (arith, at-image _ i f, i .sound .history-fits p, sizes-low i .entries-high)
+
   -- ---- a slot
 
   pub head-of : (i : IsImage l) (p j : ℕ) (x : List ℕ) → SlotAt l p j x → slotHead ≤ length x
@@ -67,6 +77,9 @@ module _ (l : List ℕ) where
   pub no-place : (p : ℕ) → getD l 0 0 ≤ p → OfState l (λ s. false ≡ inPool s p)
   no-place p b = of-state _ λ s rest h. sym (h .sound .pool-ends p (omega (arith, places-word s rest l (h .words))))
 
+  pub lives-place : (p : ℕ) → OfState l (Lives p) → OfState l (IsPlace p)
+  lives-place p f = of-state _ λ s rest h. in-places s (h .sound) p (holding _ f s rest h)
+
   pub is-place : (p : ℕ) → p < getD l 0 0 → OfState l (IsPlace p)
   is-place p b = of-state _ λ s rest h. omega (arith, places-word s rest l (h .words))
 
@@ -80,6 +93,10 @@ module _ (l : List ℕ) where
     pub queue-out : (r : List ℕ) (words : ℕ) → OfState l (λ s. words ≡ s .sizes .words) → r ≡ take (getD x 4 0) (drop (slotHead + words) x) → OfState l (λ s. r ≡ map nameWord (s .queues p))
     queue-out r words w e = of-state _ λ s rest h. e ∙ names-there s (h .sound) p 0 x (holding _ f s rest h) words (holding _ w s rest h) ∙ present-names s (h .sound) p
 
+  -- names of a queue are as many as its messages
+  pub queue-long : (p : ℕ) (names : List ℕ) → OfState l (λ s. names ≡ map nameWord (s .queues p)) → OfState l (λ s. length names ≡ length (s .queues p))
+  queue-long p names f = of-state _ λ s rest h. ap length (holding _ f s rest h) ∙ length-map (s .queues p) nameWord
+
   -- ---- the slot of an entry
 
   module _ (p i : ℕ) (there : OfState l (IsEntry p i)) where
@@ -89,7 +106,7 @@ module _ (l : List ℕ) where
     pub entry-index : OfState l (λ s. i + 1 ≤ s .sizes .entries)
     entry-index = of-state _ λ s rest h. omega (arith, holding _ there s rest h, h .sound .history-fits p)
 
-    pub entry-low : IsImage l → i + 1 ≤ 64
+    pub entry-low : IsImage l → i + 1 ≤ mostEntries
     entry-low im = omega (arith, at-image _ im entry-index, sizes-low im .entries-high)
 
   module _ (p i : ℕ) (x : List ℕ) (f : SlotAt l p (i + 1) x) where

@@ -1,10 +1,11 @@
 -- What is read of a store, said of the state that it holds. Assumes nothing: these are definitions.
 use Prim.Native.Nat.{ℕ, _<_, _-_}
 use mathlib.Core.Path.{_≡_}
+use mathlib.Core.Bool.{true}
 use mathlib.Core.Option.{Option, none, some}
 use mathlib.Core.List.{List, [], _++_}
 use lib.ListN.{length, drop}
-use Rattle.rules.specs.State.{Letter, letter, asSend, Entry, Process, State, historyAt, entryAt}
+use Rattle.rules.specs.State.{Letter, letter, asSend, Entry, Process, State, historyAt, entryAt, inPool}
 use Rattle.rules.specs.Flight.{sent}
 use Rattle.rules.specs.Sound.{Sound}
 use Rattle.store.specs.Layout.{image}
@@ -28,9 +29,12 @@ controlOf (some process) = process .control
 unfoldable pub controlAt : State → ℕ → List ℕ
 controlAt s p = controlOf (s .processes p)
 
--- a place that there is, and an entry that there is
+-- a place that there is, a place in the pool, and an entry that there is
 abbrev pub IsPlace : ℕ → State → Type 0
 IsPlace p s = p < s .sizes .places
+
+abbrev pub Lives : ℕ → State → Type 0
+Lives p s = inPool s p ≡ true
 
 abbrev pub IsEntry : (p i : ℕ) → State → Type 0
 IsEntry p i s = i < length (historyAt s p)
@@ -50,6 +54,15 @@ pub record IsSend (p i : ℕ) (s : State) : Type 0 where
   pub value : List ℕ
   pub stands : entryAt (historyAt s p) i ≡ some entry
   pub is-send : asSend (entry .kind) ≡ some (letter target value)
+
+-- entry i of p is its send of that count
+pub record SendAt (p k i : ℕ) (s : State) : Type 0 where
+  pub entry : Entry
+  pub target : ℕ
+  pub value : List ℕ
+  pub stands : entryAt (historyAt s p) i ≡ some entry
+  pub is-send : asSend (entry .kind) ≡ some (letter target value)
+  pub is-kth : sent (historyAt s p) k ≡ some (letter target value)
 
 -- the oldest i entries of a history
 unfoldable pub oldest : ℕ → List Entry → List Entry

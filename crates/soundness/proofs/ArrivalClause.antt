@@ -13,23 +13,24 @@ use lib.Dec.{eqb}
 use lib.ListN.{length, take, drop, getD, length-map, length-reverse, length-drop, List·getD-eq-default}
 use lib.Seq.{getD-take, getD-drop, drop-drop, length-take-le}
 use Rattle.lists.specs.Lists.{All, joined}
-use Rattle.lists.proofs.Tests.{none-not-some, some-injective, true-or-false, eqb-true, eqb-false, cond-true, cond-false}
+use Rattle.lists.proofs.Tests.{none-not-some, true-or-false, cond-true, cond-false}
 use Rattle.lists.proofs.All.{all-append, all-left, all-right, all-map, all-unmap, all-getD, all-so, maps-after}
-use Rattle.lists.proofs.Blocks.{chop, length-chop, block-in}
+use Rattle.lists.proofs.Blocks.{length-chop, block-in}
 use Rattle.lists.proofs.Counts.{occurs, occurs-append, occurs-head, occurs-other, occurs-more}
-use Rattle.rules.specs.State.{Sizes, Letter, letter, Entry}
-use Rattle.rules.specs.Flight.{sends, sent}
-use Rattle.store.specs.Layout.{blocksFrom, slotHead, namesRoom, slotSize, blockSize, nameBase, kindFree, kindRec, Slot}
-use Rattle.store.specs.Formed.{IsZero, WellSlot, WellSlots, sizesIn, WellFormedStore}
-use Rattle.store.proofs.Reading.{readSlot, leading, readBlock, readPlace, read-past}
+use Rattle.rules.specs.State.{Sizes, Letter, letter}
+use Rattle.rules.specs.Flight.{sent}
+use Rattle.store.specs.Layout.{blocksFrom, slotHead, namesRoom, slotSize, blockSize, nameBase, kindRec, Slot}
+use Rattle.store.specs.Formed.{IsZero, WellSlot, sizesIn, WellFormedStore}
+use Rattle.store.proofs.Reading.{readSlot, readBlock, readPlace, read-past}
 use Rattle.store.proofs.Restoring.{readSend, readSends}
 use Rattle.store.proofs.Histories.{sends-few, sent-below}
-use Rattle.store.proofs.SoundSlots.{takenName, takenIf, takenNames, newestFirst, sentBy, SaidTo}
+use Rattle.store.proofs.SoundSlots.{takenName, takenIf, takenNames, sentBy, SaidTo}
 use Rattle.store.proofs.SoundSlots
 use Rattle.soundness.specs.SoundTests.{kindWord, numberWord, namesIn, runAll, arriveFrom}
 use Rattle.soundness.proofs.Marks.{Marked, marked, marks}
 use Rattle.soundness.proofs.Occurring.{occurs-so, all-occurring, occurs-reverse}
-use Rattle.soundness.proofs.BlockViews.{entriesIn, names-read, entries-collected, blocksIn, block-long, block-well, place-read}
+use Rattle.soundness.proofs.SlotsInUse.{entries-few}
+use Rattle.soundness.proofs.BlockViews.{names-read, entries-collected, blocksIn, block-long, block-well, place-read}
 use Rattle.soundness.proofs.ArrivalMarks.{Came, came, nameAt, arrive, keyOf, Sent, Part, Untaken, arrival-marks, whole-part, takenOf, cameTo, cameFrom, all-run}
 
 -- ---- keys
@@ -134,9 +135,6 @@ module _ (places entries : ℕ) (table : List ℕ) (words size count : ℕ) wher
   pub record Later (p : ℕ) (c : Came) : Type 0 where
     pub good : Good c
     pub at-least : p ≤ c .place
-
-  later-weaker : (p : ℕ) (cs : List Came) → All (Later (p + 1)) cs → All (Later p) cs
-  later-weaker p cs a = all-so (λ c x. (let h = x .at-least in record { good = x .good; at-least = omega arith })) cs a
 
   place-once : (p k : ℕ) (ns : List ℕ) → All (λ w. Good (came p w)) ns → ((c : ℕ) → occurs c ns ≤ 1) → occurs k (map (nameAt entries) ns) ≤ 1
   place-once p k ns a o = elim (decLt 0 (occurs k (map (nameAt entries) ns))) [
@@ -247,18 +245,6 @@ pub record TargetTable (module′ : List ℕ) (sizes : Sizes) (places : ℕ → 
   pub long : sizes .places * sizes .entries ≤ length targets
   pub at : (p k : ℕ) → p < sizes .places → k < sizes .entries → getD targets (p * sizes .entries + k) 0 ≡ targetWord (sentBy module′ places p k)
 
-tail-short : (xs : List Slot) (n : ℕ) → length xs ≤ suc n → length (tail xs) ≤ n
-tail-short [] n h = omega arith
-tail-short (x ∷ xs) n h = omega arith
-
-leading-short : (xs : List Slot) → length (leading xs) ≤ length xs
-unfolding leading
-leading-short [] = omega arith
-leading-short (x ∷ xs) = elim (true-or-false (eqb (x .kind) kindFree)) [
-  | inl t ↦ omega (arith, ap length (cond-true [] (x ∷ leading xs) t))
-  | inr f ↦ omega (arith, ap length (cond-false [] (x ∷ leading xs) f), leading-short xs)
-]
-
 module _ (module′ : List ℕ) (sizes : Sizes) (l : List ℕ) (formed : WellFormedStore l) (same : sizes ≡ sizesIn l) (targets : List ℕ) (table : TargetTable module′ sizes (readPlace sizes l) targets) where
   abbrev blocks : List (List ℕ)
   blocks = blocksIn sizes l formed same
@@ -295,11 +281,9 @@ module _ (module′ : List ℕ) (sizes : Sizes) (l : List ℕ) (formed : WellFor
 
   -- the names of sends
   few-entries : (p : ℕ) → p < sizes .places → length (tail (placesRead p)) ≤ sizes .entries
-  unfolding readBlock chop
   few-entries p h =
       let b = getD blocks p [] in
-      let slots = map (readSlot sizes) (chop (suc (sizes .entries)) (slotSize sizes) b) in
-      omega (arith, ap (λ (xs : List Slot). length (tail xs)) (place-read sizes l formed same p h), tail-short (readBlock sizes b) (sizes .entries) (omega (arith, leading-short slots, length-map (chop (suc (sizes .entries)) (slotSize sizes) b) (readSlot sizes), length-chop (suc (sizes .entries)) (slotSize sizes) b)))
+      omega (arith, ap (λ (xs : List Slot). length (tail xs)) (place-read sizes l formed same p h), entries-few sizes b (block-long sizes l formed same p h) (block-well sizes l formed same p h))
 
   sent-in : (p k : ℕ) (x : Letter) → sentBy module′ placesRead p k ≡ some x → (p < sizes .places) × (k < sizes .entries)
   unfolding readSends sent

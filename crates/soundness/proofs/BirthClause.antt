@@ -1,10 +1,10 @@
 -- The clause about births: the marks of children decide that each live place but 0 is the child of one spawn, and no other place of any.
-use Prim.Native.Nat.{ℕ, zero, suc, _+_, _*_, _-_, _≤_, _<_}
+use Prim.Native.Nat.{ℕ, zero, suc, _+_, _*_, _≤_, _<_}
 use mathlib.Core.Path.{_≡_, refl, sym, _∙_, ap, subst}
 use mathlib.Core.Logic.{_↔_, _⊎_, inl, inr}
 use mathlib.Core.Bool.{Bool, true, false, cond, not, _&&_}
 use mathlib.Core.Option.{Option, none, some}
-use mathlib.Core.List.{List, [], _∷_, _++_, map, tail, append-nil}
+use mathlib.Core.List.{List, [], _∷_, map, tail}
 use native.Mathlib.Decide.{ℕ-discrete, decLt}
 use native.Mathlib.Nat.{zero-add}
 use native.Mathlib.Omega.{arith}
@@ -12,23 +12,23 @@ use borrow.Rule.Slice.PartMut.{midOf}
 use lib.Dec.{eqb, ltb}
 use lib.ListN.{length, take, drop, getD, set, replicate, length-set, length-replicate, getD-replicate, List·getD-eq-default}
 use lib.Seq.{take-suc, take-length, getD-set-same, getD-set-other}
-use Rattle.lists.specs.Lists.{All, joined}
-use Rattle.lists.proofs.Tests.{none-not-some, some-injective, true-or-false, true-not-false, eqb-true, eqb-false, eqb-of, eqb-apart, ltb-true, ltb-of, and-of, cond-true, cond-false}
+use Rattle.lists.specs.Lists.{joined}
+use Rattle.lists.proofs.Tests.{none-not-some, some-injective, true-or-false, true-not-false, eqb-false, eqb-of, eqb-apart, ltb-true, ltb-of, and-of, cond-true, cond-false}
 use Rattle.lists.proofs.All.{all-any, map-same}
 use Rattle.lists.proofs.Blocks.{chop, length-chop}
 use Rattle.lists.proofs.Counts.{oneIf, occurs, occurs-append, occurs-head, occurs-other}
 use Rattle.rules.specs.State.{Sizes}
 use Rattle.rules.specs.Load.{goodSizes}
-use Rattle.store.specs.Layout.{blocksFrom, slotSize, slotCount, blockSize, kindFree, kindSpawn, Slot}
-use Rattle.store.specs.Formed.{WellSlot, WellSlots, sizesIn, WellFormedStore}
+use Rattle.store.specs.Layout.{blocksFrom, slotSize, blockSize, kindFree, kindSpawn, Slot}
+use Rattle.store.specs.Formed.{WellSlot, sizesIn, WellFormedStore}
 use Rattle.store.proofs.Reading.{readSlot, readBlock, readPlace, read-past}
 use Rattle.store.proofs.SoundStates.{sizes-in}
 use Rattle.store.proofs.SoundSlots.{isLive}
 use Rattle.store.proofs.Births.{spawnsThere, births, allBirths, BornCounted}
-use Rattle.soundness.specs.SoundTests.{kindWord, numberWord, andThen, runAll, liveFrom, bearOne, bearSlot, bearPlace, AllBorn, Births}
+use Rattle.soundness.specs.SoundTests.{kindWord, numberWord, andThen, runAll, liveFrom, bearOne, bearSlot, bearPlace, Births}
 use Rattle.soundness.proofs.Marks.{run-joined, Marking, Marked, open-before, open-after, marked, marks}
 use Rattle.soundness.proofs.Occurring.{occurs-so, all-occurring, collect-snoc}
-use Rattle.soundness.proofs.BlockViews.{entriesIn, live-read, entries-collected, blocksIn, block-long, block-well, place-read}
+use Rattle.soundness.proofs.BlockViews.{live-read, entries-collected, blocksIn, block-long, block-well, place-read}
 
 -- ---- one child
 

@@ -2,8 +2,8 @@
 -- from the slots in use.
 use Prim.Native.Nat.{ℕ, zero, suc, _+_, _*_, _≤_, _<_}
 use mathlib.Core.Path.{_≡_, refl, sym, _∙_, ap, subst}
-use mathlib.Core.Logic.{_⊎_, inl, inr}
-use mathlib.Core.Bool.{Bool, true, false, cond, not}
+use mathlib.Core.Logic.{inl, inr}
+use mathlib.Core.Bool.{not}
 use mathlib.Core.List.{List, [], _∷_, _++_, map, tail}
 use native.Mathlib.Nat.{suc-mul}
 use native.Mathlib.Decide.{decLt}
@@ -11,19 +11,19 @@ use native.Mathlib.Omega.{arith}
 use borrow.Rule.Slice.PartMut.{midOf}
 use lib.Dec.{eqb}
 use lib.ListN.{length, take, drop, getD, length-drop, List·getD-eq-default}
-use lib.Seq.{getD-take, getD-drop, drop-drop, length-take-le}
+use lib.Seq.{getD-take, drop-drop, length-take-le}
 use Rattle.lists.specs.Lists.{All, joined}
 use Rattle.lists.proofs.Tests.{true-or-false, eqb-true, eqb-false, eqb-of, eqb-apart, cond-true, cond-false}
-use Rattle.lists.proofs.All.{all-getD, all-take, all-drop}
-use Rattle.lists.proofs.Blocks.{chop, chop-at, chop-again, block-in, length-chop, mid-mid}
+use Rattle.lists.proofs.All.{all-getD, all-drop}
+use Rattle.lists.proofs.Blocks.{chop, chop-at, block-in, mid-mid}
 use Rattle.rules.specs.State.{Sizes}
-use Rattle.store.specs.Layout.{blocksFrom, slotHead, namesRoom, slotSize, slotCount, blockSize, needed, kindFree, Slot}
+use Rattle.store.specs.Layout.{blocksFrom, slotHead, slotSize, slotCount, blockSize, needed, kindFree, Slot}
 use Rattle.store.specs.Formed.{IsZero, WellSlot, WellSlots, sizesIn, WellFormedStore}
 use Rattle.store.proofs.Reading.{readSlot, leading, readBlock, readPlace}
 use Rattle.store.proofs.SoundSlots.{isLive}
 use Rattle.store.proofs.SoundSlots
 use Rattle.store.proofs.WellTestBlock.{free-slots, used-slots}
-use Rattle.soundness.specs.SoundTests.{kindWord, numberWord, namesIn}
+use Rattle.soundness.specs.SoundTests.{kindWord, namesIn}
 use Rattle.soundness.proofs.SoundTestWalk.{mid-take}
 
 module _ (sizes : Sizes) where

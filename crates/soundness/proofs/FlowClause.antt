@@ -1,23 +1,19 @@
 -- The clause about flows: the walk over a place's entries, oldest first, decides what is said of its slots, newest first.
-use Prim.Native.Nat.{ℕ, suc, _+_}
+use Prim.Native.Nat.{ℕ, suc}
 use mathlib.Core.Path.{_≡_, refl, sym, _∙_, ap, subst}
-use mathlib.Core.Logic.{_⊎_, inl, inr}
-use mathlib.Core.Bool.{Bool, true, false, cond, _&&_}
+use mathlib.Core.Logic.{inl, inr}
+use mathlib.Core.Bool.{Bool, true, false, _&&_}
 use mathlib.Core.List.{List, [], _∷_, _++_, map, reverse, reverseAux}
 use lib.Dec.{eqb}
 use lib.ListN.{take, drop, getD}
 use lib.Seq.{drop-drop}
-use Rattle.lists.specs.Lists.{All}
 use Rattle.lists.specs.Decides.{Decides}
-use Rattle.lists.proofs.All.{all-any}
-use Rattle.lists.proofs.Blocks.{chop}
 use Rattle.lists.proofs.Tests.{eqb-true, eqb-of, true-or-false, true-not-false, and-left, and-right, and-of, cond-true, cond-false}
 use Rattle.rules.specs.State.{Sizes}
 use Rattle.store.specs.Layout.{slotHead, kindRec, Slot}
-use Rattle.soundness.specs.SoundTests.{kindWord, numberWord, namesIn, begins, leftBegins, flowsOn, everyOf, placeFlows}
+use Rattle.soundness.specs.SoundTests.{kindWord, numberWord, namesIn, begins, leftBegins, flowsOn}
 use Rattle.store.proofs.Reading.{readSlot}
 use Rattle.store.proofs.SoundSlots.{Begins, leftNames, SlotFlows}
-use Rattle.soundness.proofs.SoundTestRun.{every-decided}
 
 begins-so : (xs ys : List ℕ) → begins xs ys ≡ true → Begins xs ys
 unfolding begins
@@ -122,11 +118,3 @@ module _ (sizes : Sizes) where
   -- the walk over the words of a place's entries decides the clause of the slots read of them
   pub flows-decide : (ws : List (List ℕ)) (present : List ℕ) → Decides (SlotFlows (reverse (map (readSlot sizes) ws)) present) (flowsOn (sizes .words) 0 [] ws present)
   flows-decide ws present = record { sound = flows-true ws [] 0 [] present kept-nothing; complete = flows-of ws [] 0 [] present kept-nothing }
-
-  -- and of all places
-  pub places-decide : (size count : ℕ) (blocks : List (List ℕ))
-      → Decides (All (λ b. SlotFlows (reverse (map (readSlot sizes) (chop count size (drop size b)))) (namesIn (sizes .words) b)) blocks) (everyOf (placeFlows (sizes .words) size count) blocks)
-  unfolding placeFlows
-  places-decide size count blocks =
-      every-decided (λ b. SlotFlows (reverse (map (readSlot sizes) (chop count size (drop size b)))) (namesIn (sizes .words) b)) (placeFlows (sizes .words) size count) blocks
-      (all-any (λ b. flows-decide (chop count size (drop size b)) (namesIn (sizes .words) b)) blocks)

@@ -1,25 +1,19 @@
 -- A run that marks: each step needs its key unmarked and marks it. It goes through where every step is fine and no key comes twice.
-use Prim.Native.Nat.{ℕ, zero, suc, _+_, _≤_}
+use Prim.Native.Nat.{ℕ, _≤_}
 use mathlib.Core.Path.{_≡_, refl, sym, _∙_, ap, subst}
-use mathlib.Core.Logic.{_↔_, _⊎_, inl, inr}
-use mathlib.Core.Bool.{Bool, true, false, cond}
 use mathlib.Core.Option.{Option, none, some}
 use mathlib.Core.List.{List, [], _∷_, _++_, map}
 use native.Mathlib.Decide.{ℕ-discrete}
 use native.Mathlib.Omega.{arith}
 use Rattle.lists.specs.Lists.{All, joined}
-use Rattle.lists.proofs.Tests.{none-not-some, some-injective, true-or-false, cond-true, cond-false}
-use Rattle.lists.proofs.All.{all-so, all-both}
+use Rattle.lists.proofs.Tests.{none-not-some, some-injective}
+use Rattle.lists.proofs.All.{all-so}
 use Rattle.lists.proofs.Counts.{occurs, occurs-head, occurs-other, occurs-more}
 use Rattle.soundness.specs.SoundTests.{andThen, runAll}
 
 -- ---- runs of runs
 
 module _ {A B : Type 0} (f : B → A → Option A) where
-  pub run-first : (b : B) (bs : List B) (x : A) → runAll f (b ∷ bs) x ≡ andThen (f b x) (runAll f bs)
-  unfolding runAll
-  run-first b bs x = refl
-
   then-then : (o : Option A) (bs cs : List B) → ((y : A) → runAll f (bs ++ cs) y ≡ andThen (runAll f bs y) (runAll f cs)) → andThen o (runAll f (bs ++ cs)) ≡ andThen (andThen o (runAll f bs)) (runAll f cs)
   unfolding andThen
   then-then none bs cs e = refl

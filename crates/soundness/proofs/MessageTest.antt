@@ -1,11 +1,10 @@
 -- The test of messages that came: what the code answers for a name, a queue and the slots of a place.
 use Prim.Native.Nat.{ℕ, _+_, _-_, _*_, _/_, _%_, _≤_, _<_}
-use mathlib.Core.Path.{_≡_, refl, sym, _∙_, ap}
-use mathlib.Core.Bool.{Bool, true, false, cond}
-use mathlib.Core.Option.{Option, none, some}
+use mathlib.Core.Path.{_≡_, sym, _∙_, ap}
+use mathlib.Core.Bool.{Bool, true, false}
+use mathlib.Core.Option.{Option}
 use mathlib.Core.List.{List}
 use native.Mathlib.Omega.{arith}
-use lib.Dec.{eqb, ltb}
 use lib.ListN.{length, take, drop, getD, set}
 use Rattle.lists.proofs.Tests.{eqb-of, eqb-apart, ltb-of, ltb-over, cond-true, cond-false}
 use Rattle.lists.proofs.Blocks.{block-in, chop}
@@ -16,9 +15,6 @@ use Rattle.soundness.proofs.SoundTestWalk.{chop-first, behind}
 -- where a sender's send of a count is noted
 pub name-in : (places entries sender count n : ℕ) → places * entries ≤ n → sender < places → count < entries → sender * entries + count < n
 name-in places entries sender count n h s c = omega (arith, block-in sender places entries s)
-
-pub name-in-16 : (places entries sender count : ℕ) → places * entries ≤ 1024 → sender < places → count < entries → sender * entries + count < 1024
-name-in-16 places entries sender count h s c = name-in places entries sender count 1024 h s c
 
 module _ (places entries place name : ℕ) (targets : List ℕ) where
   pub arrive-sender : (x : List ℕ) → places ≤ name / nameBase → answered false x ≡ arriveOne places entries place name targets

@@ -1,13 +1,10 @@
 -- What occurs in lists of numbers: facts of all elements, joined lists, lists turned round.
-use Prim.Native.Nat.{ℕ, zero, suc, _+_, _≤_, _<_}
+use Prim.Native.Nat.{ℕ, _≤_}
 use mathlib.Core.Path.{_≡_, refl, sym, _∙_, ap, subst}
 use mathlib.Core.List.{List, [], _∷_, _++_, map, map-append, append-assoc, append-nil, reverse, reverse-cons}
 use native.Mathlib.Decide.{ℕ-discrete}
 use native.Mathlib.Omega.{arith}
-use lib.ListN.{length, take, getD}
-use lib.Seq.{take-suc, take-length}
 use Rattle.lists.specs.Lists.{All, joined}
-use Rattle.lists.proofs.All.{all-append, all-left, all-right}
 use Rattle.lists.proofs.Counts.{occurs, occurs-append, occurs-head, occurs-other, occurs-more}
 
 -- what occurs has what all have, and all have what each that occurs has

@@ -1,14 +1,14 @@
 -- The clause about shapes: the test of an entry's words decides what its slot may be, but for what a send's control is about to do.
 use Prim.Native.Nat.{ℕ, _≤_, _<_}
 use mathlib.Core.Path.{_≡_, refl, sym, _∙_, ap}
-use mathlib.Core.Logic.{_⊎_, inl, inr}
-use mathlib.Core.Bool.{Bool, true, false, cond, _&&_}
+use mathlib.Core.Logic.{inl, inr}
+use mathlib.Core.Bool.{true}
 use mathlib.Core.List.{List, []}
 use native.Mathlib.Omega.{arith}
-use lib.Dec.{eqb, leb, ltb}
+use lib.Dec.{eqb, leb}
 use lib.ListN.{length, take, drop, getD}
 use Rattle.lists.specs.Decides.{Decides}
-use Rattle.lists.proofs.Tests.{eqb-true, eqb-of, leb-true, leb-of, ltb-true, ltb-of, true-or-false, true-not-false, and-left, and-right, and-of, cond-true, cond-false}
+use Rattle.lists.proofs.Tests.{eqb-true, eqb-of, leb-true, ltb-true, ltb-of, true-or-false, true-not-false, and-left, and-right, and-of, cond-true, cond-false}
 use Rattle.rules.specs.State.{Sizes}
 use Rattle.store.specs.Layout.{slotHead, kindSeq, kindSend, kindRec, kindSpawn, kindSelf, kindCheck, kindLive, Slot}
 use Rattle.soundness.specs.SoundTests.{plainSlot, presentSlot, entrySlot}

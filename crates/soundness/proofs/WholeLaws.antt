@@ -12,7 +12,7 @@ use Rattle.lists.specs.Lists.{All}
 use Rattle.lists.proofs.All.{all-so, all-take, all-drop}
 use Rattle.lists.proofs.Blocks.{chop, length-chop}
 use Rattle.rules.specs.State.{Sizes}
-use Rattle.store.specs.Layout.{blocksFrom, slotSize, slotCount, blockSize, needed, kindFree}
+use Rattle.store.specs.Layout.{blocksFrom, slotSize, slotCount, blockSize, needed, mostPlaces, mostEntries, longestSlot, kindFree}
 use Rattle.store.specs.Formed.{IsZero, WellSlot, WellSlots, sizesIn, WellFormedStore}
 use Rattle.store.proofs.SoundStates.{sizes-in}
 use Rattle.store.proofs.LayoutLaws.{slot-most}
@@ -115,13 +115,13 @@ module _ (l : List ℕ) (formed : WellFormedStore l) where
     pub len-some : 1 ≤ len
     len-some = omega (arith, el, suc-mul (sizes .entries) (slotSize sizes))
 
-    pub size-few : size ≤ 65536
+    pub size-few : size ≤ longestSlot
     size-few = omega (arith, slot-most sizes (formed .sizes-pass))
 
-    pub places-few : getD l 0 0 ≤ 16
+    pub places-few : getD l 0 0 ≤ mostPlaces
     places-few = sizes-in sizes (formed .sizes-pass) .places-high
 
-    pub entries-few : getD l 1 0 ≤ 64
+    pub entries-few : getD l 1 0 ≤ mostEntries
     entries-few = sizes-in sizes (formed .sizes-pass) .entries-high
 
     pub store-tested : (arities : List ℕ) (r : Bool) → SlotsTested (getD l 0 0) (getD l 1 0) (getD l 2 0) size arities (chop (getD l 0 0) len (take (all - 516) (drop 516 l))) r → StoreTested l arities r

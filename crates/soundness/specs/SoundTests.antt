@@ -1,7 +1,7 @@
 -- What the functions of the soundness test answer, said of the words of slots. Assumes nothing: these are definitions.
 use Prim.Native.Nat.{ℕ, suc, _+_, _*_, _≤_, _<_, _/_, _%_}
 use mathlib.Core.Path.{_≡_}
-use mathlib.Core.Bool.{Bool, true, false, cond, _&&_, _||_, not}
+use mathlib.Core.Bool.{Bool, true, false, cond, _&&_, not}
 use mathlib.Core.Option.{Option, none, some}
 use mathlib.Core.List.{List, [], _∷_, _++_}
 use lib.Dec.{eqb, leb, ltb}
@@ -9,7 +9,7 @@ use lib.ListN.{length, take, drop, getD, set, replicate}
 use Rattle.lists.specs.Lists.{All}
 use Rattle.lists.proofs.Blocks.{chop}
 use Rattle.term.specs.Control.{goodControl}
-use Rattle.store.specs.Layout.{slotHead, nameBase, kindFree, kindSeq, kindSend, kindRec, kindSpawn, kindSelf, kindCheck, kindLive}
+use Rattle.store.specs.Layout.{slotHead, mostPlaces, nameBase, kindFree, kindSeq, kindSend, kindRec, kindSpawn, kindSelf, kindCheck, kindLive}
 
 -- ---- the words of a slot
 
@@ -144,7 +144,7 @@ pub record AllBorn (live born : List Bool) : Type 0 where
 -- the clause about births: no child is refused, and each live place but 0 was born
 pub record Births (size count : ℕ) (live : List Bool) (blocks : List (List ℕ)) : Type 0 where
   pub born : List Bool
-  pub marks : runAll (bearPlace size count live) blocks (replicate 16 false) ≡ some born
+  pub marks : runAll (bearPlace size count live) blocks (replicate mostPlaces false) ≡ some born
   pub all : AllBorn live born
 
 -- ---- messages

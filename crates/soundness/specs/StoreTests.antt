@@ -11,7 +11,7 @@ use Rattle.lists.specs.Decides.{Decides}
 use Rattle.lists.proofs.Blocks.{chop}
 use Rattle.term.specs.Module.{checkModule}
 use Rattle.term.specs.Control.{moduleArities}
-use Rattle.store.specs.Layout.{blocksFrom, slotSize, blockSize, kindFree}
+use Rattle.store.specs.Layout.{blocksFrom, slotSize, blockSize, mostPlaces, mostNames, kindFree}
 use Rattle.store.specs.Formed.{sizesIn}
 use Rattle.soundness.specs.SoundTests.{kindWord, Block, ControlBlock, everyOf, placePasses, liveFrom, Births, arriveFrom, placeFlows}
 use Rattle.soundness.specs.SendTests.{SendReady, entrySlots, noteFrom}
@@ -24,12 +24,12 @@ pub record WholeBlock (words size count : ℕ) (b : List ℕ) : Type 0 where
 
 -- which places are live
 abbrev pub liveIn : List (List ℕ) → List Bool
-liveIn blocks = liveFrom 0 blocks (replicate 16 false)
+liveIn blocks = liveFrom 0 blocks (replicate mostPlaces false)
 
 -- each send is to a live place, each message that came was sent to its place and came once, and what recs left are prefixes
 pub record MessagesPass (module′ : List ℕ) (live : List Bool) (places entries words size : ℕ) (blocks : List (List ℕ)) : Type 0 where
   pub targets : List ℕ
-  pub noted : noteFrom module′ live size entries 0 blocks (replicate 1024 0) ≡ some targets
+  pub noted : noteFrom module′ live size entries 0 blocks (replicate mostNames 0) ≡ some targets
   pub left : List ℕ
   pub came : arriveFrom words size entries places entries 0 blocks targets ≡ some left
   pub flow : everyOf (placeFlows words size entries) blocks ≡ true

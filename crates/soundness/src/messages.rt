@@ -2,11 +2,11 @@
 use store::layout::REC;
 use store::layout::SLOT_HEAD;
 ghost use mathlib.Core.Path.{_≡_};
-ghost use Prim.Native.Nat.{_+_, _*_, _<_, _≤_};
-ghost use lib.ListN.{length, drop, getD};
+ghost use Prim.Native.Nat.{_*_, _<_, _≤_};
+ghost use lib.ListN.{length, drop};
 ghost use Rattle.lists.specs.Lists.{All};
 ghost use Rattle.lists.proofs.Blocks.{chop};
-ghost use Rattle.store.specs.Layout.{slotHead};
+ghost use Rattle.store.specs.Layout.{mostPlaces, mostEntries};
 ghost use Rattle.soundness.specs.SoundTests.{Slots, answered, TakenFits, arriveOne, arriveAll, arriveSlot, arriveTaken, TakenBlock, arrivePlace, arriveFrom};
 
 // A name's word is its sender and its count to this base.
@@ -14,7 +14,7 @@ const NAME_BASE: u32 = 65536;
 
 // A message that came to a place: it was sent there, and did not come before. `targets` holds one more than each send's target.
 fn arrive(name: u32, place: u32, places: usize, entries: usize, targets: &mut [u32]) -> bool
-    requires { ⌜ (places * entries ≤ length (now targets)) × (place < 16) × (places ≤ 16) × (entries ≤ 64) ⌝ }
+    requires { ⌜ (places * entries ≤ length (now targets)) × (place < mostPlaces) × (places ≤ mostPlaces) × (entries ≤ mostEntries) ⌝ }
     ensures { λ r. ⌜ answered r (now (targets .exit)) ≡ arriveOne places entries place name (now (targets .entry)) ⌝ }
 {
     let sender = (name / NAME_BASE) as usize;
@@ -35,7 +35,7 @@ fn arrive(name: u32, place: u32, places: usize, entries: usize, targets: &mut [u
 
 // The messages of a queue.
 fn arrive_all(names: &[u32], place: u32, places: usize, entries: usize, targets: &mut [u32]) -> bool
-    requires { ⌜ (places * entries ≤ length (now targets)) × (place < 16) × (places ≤ 16) × (entries ≤ 64) ⌝ }
+    requires { ⌜ (places * entries ≤ length (now targets)) × (place < mostPlaces) × (places ≤ mostPlaces) × (entries ≤ mostEntries) ⌝ }
     ensures { λ r. ⌜ answered r (now (targets .exit)) ≡ arriveAll places entries place (now (names .entry)) (now (targets .entry)) ⌝ }
 {
     let mut i = 0;
@@ -58,7 +58,7 @@ fn arrive_slot(
     entries: usize,
     targets: &mut [u32],
 ) -> bool
-    requires { ⌜ TakenFits words (now slot) × (places * entries ≤ length (now targets)) × (place < 16) × (places ≤ 16) × (entries ≤ 64) ⌝ }
+    requires { ⌜ TakenFits words (now slot) × (places * entries ≤ length (now targets)) × (place < mostPlaces) × (places ≤ mostPlaces) × (entries ≤ mostEntries) ⌝ }
     ensures { λ r. ⌜ answered r (now (targets .exit)) ≡ arriveSlot words places entries place (now (slot .entry)) (now (targets .entry)) ⌝ }
 {
     if slot[0] == REC {
@@ -84,7 +84,7 @@ fn arrive_taken(
     entries: usize,
     targets: &mut [u32],
 ) -> bool
-    requires { ⌜ (size ≤ length (now block)) × Slots words size count (drop size (now block)) × All (TakenFits words) (chop count size (drop size (now block))) × (places * entries ≤ length (now targets)) × (place < 16) × (places ≤ 16) × (entries ≤ 64) ⌝ }
+    requires { ⌜ (size ≤ length (now block)) × Slots words size count (drop size (now block)) × All (TakenFits words) (chop count size (drop size (now block))) × (places * entries ≤ length (now targets)) × (place < mostPlaces) × (places ≤ mostPlaces) × (entries ≤ mostEntries) ⌝ }
     ensures { λ r. ⌜ answered r (now (targets .exit)) ≡ arriveTaken words size count places entries place (now (block .entry)) (now (targets .entry)) ⌝ }
 {
     let mut t = &block[size..];
@@ -111,7 +111,7 @@ fn arrive_place(
     entries: usize,
     targets: &mut [u32],
 ) -> bool
-    requires { ⌜ TakenBlock words size count (now block) × (places * entries ≤ length (now targets)) × (place < 16) × (places ≤ 16) × (entries ≤ 64) ⌝ }
+    requires { ⌜ TakenBlock words size count (now block) × (places * entries ≤ length (now targets)) × (place < mostPlaces) × (places ≤ mostPlaces) × (entries ≤ mostEntries) ⌝ }
     ensures { λ r. ⌜ answered r (now (targets .exit)) ≡ arrivePlace words size count places entries place (now (block .entry)) (now (targets .entry)) ⌝ }
 {
     let from = SLOT_HEAD + words;
@@ -139,7 +139,7 @@ pub fn messages(
     entries: usize,
     targets: &mut [u32],
 ) -> bool
-    requires { ⌜ (length (now blocks) ≡ places * len) × All (TakenBlock words size count) (chop places len (now blocks)) × (places * entries ≤ length (now targets)) × (places ≤ 16) × (entries ≤ 64) ⌝ }
+    requires { ⌜ (length (now blocks) ≡ places * len) × All (TakenBlock words size count) (chop places len (now blocks)) × (places * entries ≤ length (now targets)) × (places ≤ mostPlaces) × (entries ≤ mostEntries) ⌝ }
     ensures { λ r. ⌜ answered r (now (targets .exit)) ≡ arriveFrom words size count places entries 0 (chop places len (now (blocks .entry))) (now (targets .entry)) ⌝ }
 {
     let mut t = blocks;

@@ -23,6 +23,7 @@ ghost use Rattle.lists.specs.Decides.{Decides};
 ghost use Rattle.lists.proofs.Blocks.{chop};
 ghost use Rattle.store.specs.Formed.{WellFormedStore};
 ghost use Rattle.store.specs.Image.{IsImage};
+ghost use Rattle.store.specs.Layout.{mostPlaces, mostEntries, longestSlot};
 ghost use Rattle.soundness.specs.SoundTests.{TakenBlock, ControlBlock};
 ghost use Rattle.soundness.specs.StoreTests.{WholeBlock, MessagesTested, SlotsTested, StoreTested};
 
@@ -36,7 +37,7 @@ fn sound_messages(
     len: usize,
     live: &[bool],
 ) -> bool
-    requires { ⌜ (length (now blocks) ≡ places * len) × All (ControlBlock size entries) (chop places len (now blocks)) × All (TakenBlock words size entries) (chop places len (now blocks)) × (places ≤ 16) × (entries ≤ 64) × (size ≤ 65536) × (length (now live) ≡ 16) ⌝ }
+    requires { ⌜ (length (now blocks) ≡ places * len) × All (ControlBlock size entries) (chop places len (now blocks)) × All (TakenBlock words size entries) (chop places len (now blocks)) × (places ≤ mostPlaces) × (entries ≤ mostEntries) × (size ≤ longestSlot) × (length (now live) ≡ mostPlaces) ⌝ }
     ensures { λ r. ⌜ MessagesTested (now (live .entry)) places entries words size (chop places len (now (blocks .entry))) r ⌝ }
 {
     let mut targets = [0u32; 1024];
@@ -70,7 +71,7 @@ fn sound_slots(
     len: usize,
     arities: &[u32],
 ) -> bool
-    requires { ⌜ (length (now blocks) ≡ places * len) × All (WholeBlock words size entries) (chop places len (now blocks)) × (1 ≤ len) × (places ≤ 16) × (entries ≤ 64) × (size ≤ 65536) ⌝ }
+    requires { ⌜ (length (now blocks) ≡ places * len) × All (WholeBlock words size entries) (chop places len (now blocks)) × (1 ≤ len) × (places ≤ mostPlaces) × (entries ≤ mostEntries) × (size ≤ longestSlot) ⌝ }
     ensures { λ r. ⌜ SlotsTested places entries words size (now (arities .entry)) (chop places len (now (blocks .entry))) r ⌝ }
 {
     if places_pass(blocks, places, len, entries, size, places as u32, arities) {

@@ -8,7 +8,7 @@ ghost use Rattle.lists.proofs.Blocks.{chop};
 ghost use Rattle.lists.specs.Decides.{Decides};
 ghost use mathlib.Core.Bool.{false};
 ghost use lib.ListN.{length, drop, replicate};
-ghost use Rattle.store.specs.Layout.{slotHead};
+ghost use Rattle.store.specs.Layout.{slotHead, mostPlaces};
 ghost use Rattle.soundness.specs.SoundTests.{Slots, Block, AllBorn, Births, liveFrom, answered, runAll, bearOne, bearSlot, bearPlace};
 
 // One child more: a live place but 0 that was no child yet.
@@ -111,7 +111,7 @@ pub fn births(
     size: usize,
     live: &[bool],
 ) -> bool
-    requires { ⌜ (length (now blocks) ≡ places * len) × All (Block 0 size count) (chop places len (now blocks)) × (length (now live) ≡ 16) ⌝ }
+    requires { ⌜ (length (now blocks) ≡ places * len) × All (Block 0 size count) (chop places len (now blocks)) × (length (now live) ≡ mostPlaces) ⌝ }
     ensures { λ r. ⌜ Decides (Births size count (now (live .entry)) (chop places len (now (blocks .entry)))) r ⌝ }
 {
     let mut born = [false; 16];
@@ -124,8 +124,8 @@ pub fn births(
 
 // Which places have a process: those whose first slot is not free.
 pub fn live_places(blocks: &[u32], places: usize, len: usize) -> [bool; 16]
-    requires { ⌜ (length (now blocks) ≡ places * len) × (1 ≤ len) × (places ≤ 16) ⌝ }
-    ensures { λ r. ⌜ r ≡ liveFrom 0 (chop places len (now (blocks .entry))) (replicate 16 false) ⌝ }
+    requires { ⌜ (length (now blocks) ≡ places * len) × (1 ≤ len) × (places ≤ mostPlaces) ⌝ }
+    ensures { λ r. ⌜ r ≡ liveFrom 0 (chop places len (now (blocks .entry))) (replicate mostPlaces false) ⌝ }
 {
     let mut live = [false; 16];
     let mut t = blocks;

@@ -4,10 +4,11 @@ use step::work::about_to;
 use store::layout::SEND;
 use store::layout::SLOT_HEAD;
 ghost use mathlib.Core.Path.{_≡_};
-ghost use Prim.Native.Nat.{_+_, _*_, _≤_, _<_};
+ghost use Prim.Native.Nat.{_+_, _*_, _≤_};
 ghost use lib.ListN.{length, drop};
 ghost use Rattle.lists.specs.Lists.{All};
 ghost use Rattle.lists.proofs.Blocks.{chop};
+ghost use Rattle.store.specs.Layout.{mostPlaces, longestSlot};
 ghost use Rattle.soundness.specs.SoundTests.{ControlFits, Slots, ControlBlock};
 ghost use Rattle.soundness.specs.SendTests.{SentIs, NotesPlace, NotesPlaces};
 
@@ -20,7 +21,7 @@ pub enum Sent {
 
 // The target of a slot's send.
 fn slot_sends(slot: &[u32], live: &[bool]) -> Sent
-    requires { ⌜ ControlFits (now slot) × (length (now slot) ≤ 65536) ⌝ }
+    requires { ⌜ ControlFits (now slot) × (length (now slot) ≤ longestSlot) ⌝ }
     ensures { λ r. ⌜ SentIs (now (live .entry)) (now (slot .entry)) r ⌝ }
 {
     if slot[0] != SEND {
@@ -49,7 +50,7 @@ fn note_place(
     at: usize,
     targets: &mut [u32],
 ) -> bool
-    requires { ⌜ (size ≤ length (now block)) × (size ≤ 65536) × Slots 0 size count (drop size (now block)) × All ControlFits (chop count size (drop size (now block))) × (length (now live) ≡ 16) × (at + count ≤ length (now targets)) ⌝ }
+    requires { ⌜ (size ≤ length (now block)) × (size ≤ longestSlot) × Slots 0 size count (drop size (now block)) × All ControlFits (chop count size (drop size (now block))) × (length (now live) ≡ mostPlaces) × (at + count ≤ length (now targets)) ⌝ }
     ensures { λ r. ⌜ NotesPlace (now (live .entry)) size count at (now (block .entry)) (now (targets .entry)) (now (targets .exit)) r ⌝ }
 {
     let mut t = &block[size..];
@@ -81,7 +82,7 @@ pub fn note_places(
     live: &[bool],
     targets: &mut [u32],
 ) -> bool
-    requires { ⌜ (length (now blocks) ≡ places * len) × All (ControlBlock size count) (chop places len (now blocks)) × (size ≤ 65536) × (length (now live) ≡ 16) × (places * count ≤ length (now targets)) ⌝ }
+    requires { ⌜ (length (now blocks) ≡ places * len) × All (ControlBlock size count) (chop places len (now blocks)) × (size ≤ longestSlot) × (length (now live) ≡ mostPlaces) × (places * count ≤ length (now targets)) ⌝ }
     ensures { λ r. ⌜ NotesPlaces (now (live .entry)) size count (chop places len (now (blocks .entry))) (now (targets .entry)) (now (targets .exit)) r ⌝ }
 {
     let mut t = blocks;

@@ -56,10 +56,6 @@ in-rows (row ∷ rows) i zero n e p q =
 in-rows (row ∷ rows) i (suc j) n e p q =
     in-rows rows (suc i) j n (and-right (asMany (row .children) || (eqb i tagCase || eqb i tagFunction)) (mostly rows (suc i)) e) (λ z. p (omega (arith, z))) (λ z. q (omega (arith, z)))
 
-pub arity-function : (tag n : ℕ) → tag ≡ tagFunction → 1 ≡ arity tag n
-unfolding arity rowOf table childCount
-arity-function tag n e = rw e
-
 pub arity-case : (tag n : ℕ) → tag ≡ tagCase → n + 1 ≡ arity tag n
 unfolding arity rowOf table childCount
 arity-case tag n e = rw e (add-one n)

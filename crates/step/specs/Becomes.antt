@@ -4,11 +4,10 @@ use mathlib.Core.Path.{_≡_}
 use mathlib.Core.Bool.{true, false}
 use mathlib.Core.Option.{Option, none, some}
 use mathlib.Core.List.{List, [], _∷_}
-use lib.ListN.{length, drop, take}
-use Rattle.term.specs.Tree.{Term, Terms, node, words}
+use lib.ListN.{drop, take}
+use Rattle.term.specs.Tree.{Term, Terms, words}
 use Rattle.term.specs.Read.{termOf, termsOf}
 use Rattle.term.specs.Value.{isValue}
-use Rattle.machine.specs.Value.{atom, pid}
 use Rattle.machine.specs.Work.{Work, finished, stuck, toSeq, toSend, toReceive, toSpawn, toSelf, toCheck, work, next}
 use Rattle.step.specs.Rows.{Plain}
 use Rattle.step.specs.Steps.{WroteNext, ModuleIs}

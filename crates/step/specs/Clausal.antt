@@ -1,11 +1,11 @@
 -- What the functions on clauses promise. Assumes nothing: these are definitions.
-use Prim.Native.Nat.{ℕ, _+_}
+use Prim.Native.Nat.{ℕ}
 use mathlib.Core.Path.{_≡_}
 use mathlib.Core.Bool.{Bool, true, false}
 use mathlib.Core.Option.{Option, none, some}
 use mathlib.Core.List.{List, _++_}
-use lib.ListN.{length, drop}
-use Rattle.term.specs.Tree.{Term, Terms, int, node, end, _then_, words, wordsOf, count}
+use lib.ListN.{drop}
+use Rattle.term.specs.Tree.{Term, Terms, node, end, _then_, wordsOf, count}
 use Rattle.term.specs.Value.{isValue}
 use Rattle.machine.specs.Clauses.{clauseTakes, firstClause}
 use Rattle.step.specs.Rows.{Stands, PlainAll}

@@ -1,13 +1,12 @@
 -- What the control check says of a control and of the term at its working place, and what the functions on controls promise.
 -- Assumes nothing: these are definitions.
-use Prim.Native.Nat.{ℕ, _+_, _≤_, _<_}
+use Prim.Native.Nat.{ℕ, _≤_, _<_}
 use mathlib.Core.Path.{_≡_}
-use mathlib.Core.Bool.{Bool, true, false}
+use mathlib.Core.Bool.{true, false}
 use mathlib.Core.Option.{Option, none, some}
-use mathlib.Core.List.{List, [], _∷_, _++_}
-use lib.ListN.{length}
+use mathlib.Core.List.{List}
 use Rattle.term.specs.Words.{tagCall, tagApply, tagCase, tagLet, tagReceive, tagSend}
-use Rattle.term.specs.Tree.{Term, Terms, int, node, end, _then_, words, count}
+use Rattle.term.specs.Tree.{Term, Terms, node, end, _then_, words, count}
 use Rattle.term.specs.Read.{termOf, termsOf}
 use Rattle.term.specs.Value.{isValue}
 use Rattle.term.specs.Module.{functionOf}

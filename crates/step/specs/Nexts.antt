@@ -1,7 +1,6 @@
 -- What the functions that write the next control promise. Assumes nothing: these are definitions.
-use Prim.Native.Nat.{ℕ, suc, _+_, _≤_}
-use mathlib.Core.Path.{_≡_}
-use mathlib.Core.List.{List, [], _∷_, _++_}
+use Prim.Native.Nat.{ℕ, _+_}
+use mathlib.Core.List.{List, _++_}
 use lib.ListN.{length, drop, take}
 use Rattle.term.specs.Tree.{Term, words}
 use Rattle.machine.specs.Match.{Bindings}

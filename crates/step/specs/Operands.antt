@@ -8,10 +8,10 @@ use mathlib.Core.List.{List}
 use lib.Dec.{eqb}
 use lib.IntN.{ℤ}
 use Rattle.term.specs.Words.{tagOf, nOf, kOf, integerWord, tagCons, tagTuple}
-use Rattle.term.specs.Tree.{Term, Terms, int, node, end, _then_}
+use Rattle.term.specs.Tree.{Term, int, node, end}
 use Rattle.term.specs.Value.{isValue}
 use Rattle.machine.specs.Value.{sameTerm}
-use Rattle.machine.specs.Operator.{unsigned, onIntegers, ifIntegers, opLess, opAtMost}
+use Rattle.machine.specs.Operator.{onIntegers, ifIntegers, opLess, opAtMost}
 use Rattle.machine.specs.Guard.{operateSome, beforeSome}
 use Rattle.step.specs.Rows.{Stands}
 use Rattle.step.specs.declared.integer.Number.{Number}

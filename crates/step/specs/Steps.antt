@@ -1,14 +1,14 @@
 -- What the functions of one step promise, said of the term that stands at the working place. Assumes nothing: these are definitions.
 use Prim.Native.Nat.{ℕ, _+_, _≤_, _<_}
 use mathlib.Core.Path.{_≡_}
-use mathlib.Core.Bool.{Bool, true, false, cond}
+use mathlib.Core.Bool.{true, cond}
 use mathlib.Core.Option.{Option, none, some}
-use mathlib.Core.List.{List, [], _∷_, _++_}
+use mathlib.Core.List.{List, _++_}
 use lib.Dec.{leb}
-use lib.ListN.{length, drop, take}
+use lib.ListN.{length, drop}
 use lib.Seq.{sets}
 use Rattle.term.specs.Words.{tagApply, tagCall, tagCase, tagLet, tagReceive}
-use Rattle.term.specs.Tree.{Term, Terms, int, node, end, _then_, words, wordsOf, count}
+use Rattle.term.specs.Tree.{Term, Terms, node, end, _then_, words, wordsOf, count}
 use Rattle.term.specs.Read.{termsOf}
 use Rattle.term.specs.Module.{functionOf}
 use Rattle.term.specs.Value.{isValue}

@@ -2,8 +2,7 @@
 use crate::guard::holds;
 use crate::matching::matches;
 use term::terms::skip;
-ghost use mathlib.Core.Path.{_≡_};
-ghost use Prim.Native.Nat.{ℕ, _<_, _≤_, _+_, _*_, _-_};
+ghost use Prim.Native.Nat.{_<_};
 ghost use lib.ListN.{length};
 ghost use Rattle.step.specs.Clausal.{TakesAt, ChoosesAt};
 

@@ -20,8 +20,7 @@ use term::words::k;
 use term::words::n;
 use term::words::tag;
 use term::words::word_of;
-ghost use mathlib.Core.Path.{_≡_};
-ghost use Prim.Native.Nat.{ℕ, _<_, _≤_, _+_, _*_, _-_};
+ghost use Prim.Native.Nat.{_<_};
 ghost use lib.ListN.{length};
 ghost use Rattle.step.specs.Becomes.{BecomesWord, Receives, SeqNext, Sent, SendNext, ChildNext};
 

@@ -7,7 +7,7 @@ use term::words::k;
 use term::words::tag;
 ghost use mathlib.Core.Path.{_≡_};
 ghost use mathlib.Core.List.{[], _∷_};
-ghost use Prim.Native.Nat.{ℕ, suc, _<_, _≤_, _+_, _*_, _-_};
+ghost use Prim.Native.Nat.{suc, _<_, _≤_, _+_, _*_, _-_};
 ghost use lib.ListN.{length, take, drop};
 ghost use Rattle.step.specs.Rows.{Wrote, CopiedTerm, CopiedTerms, entryOf};
 

@@ -9,8 +9,7 @@ use term::words::CALL;
 use term::words::VARIABLE;
 use term::words::k;
 use term::words::tag;
-ghost use mathlib.Core.Path.{_≡_};
-ghost use Prim.Native.Nat.{ℕ, _<_, _≤_, _+_, _*_, _-_};
+ghost use Prim.Native.Nat.{_<_};
 ghost use lib.ListN.{length};
 ghost use Rattle.step.specs.Guards.{Looked, GuardAt, HoldsAt};
 

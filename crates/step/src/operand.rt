@@ -13,12 +13,12 @@ use term::words::TUPLE;
 use term::words::tag;
 ghost use mathlib.Core.Path.{_≡_};
 ghost use mathlib.Core.Option.{some};
-ghost use Prim.Native.Nat.{ℕ, _<_, _≤_, _+_, _*_, _-_};
+ghost use Prim.Native.Nat.{_<_};
 ghost use lib.ListN.{length};
 ghost use Rattle.machine.specs.Value.{truth};
 ghost use Rattle.machine.specs.Operator.{onIntegers, signed};
 ghost use Rattle.step.specs.Answers.{number};
-ghost use Rattle.step.specs.Operands.{Gives, GivesAnywhere, Equals, Operates, StandsHere, StandsThere, SameShort, SameLong, WithShort, Arithmetic, isStuck};
+ghost use Rattle.step.specs.Operands.{GivesAnywhere, Equals, Operates, StandsHere, StandsThere, SameShort, SameLong, WithShort, Arithmetic, isStuck};
 
 // The word before an integer's two's complement.
 pub const INTEGER_WORD: u32 = 0x0300_0000;

@@ -10,7 +10,7 @@ use term::words::n;
 use term::words::tag;
 ghost use mathlib.Core.Path.{_≡_};
 ghost use mathlib.Core.Bool.{_&&_};
-ghost use Prim.Native.Nat.{ℕ, _<_, _≤_, _+_, _*_, _-_};
+ghost use Prim.Native.Nat.{_<_, _≤_, _+_, _*_, _-_};
 ghost use lib.Dec.{leb};
 ghost use lib.ListN.{length};
 ghost use Rattle.term.specs.Words.{tagAtom, tagTuple};

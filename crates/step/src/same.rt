@@ -2,7 +2,7 @@
 use term::tables::children;
 use term::words::INTEGER;
 use term::words::tag;
-ghost use Prim.Native.Nat.{ℕ, _<_, _≤_, _+_, _*_, _-_};
+ghost use Prim.Native.Nat.{_<_, _≤_, _+_, _*_, _-_};
 ghost use lib.ListN.{length};
 ghost use Rattle.step.specs.Rows.{Sames};
 

@@ -14,7 +14,7 @@ use term::terms::skip;
 use term::words::k;
 use term::words::n;
 ghost use mathlib.Core.Path.{_≡_};
-ghost use Prim.Native.Nat.{ℕ, _<_, _≤_, _+_, _*_, _-_};
+ghost use Prim.Native.Nat.{_<_, _≤_};
 ghost use lib.ListN.{length};
 ghost use Rattle.step.specs.Steps.{fittedOf, CalledAt, CallNext, CasedAt, ClauseNext, CaseNext, LetNext, ReceiveNext, ParametersAt, ApplyNext};
 

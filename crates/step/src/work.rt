@@ -16,8 +16,7 @@ use term::words::SEND;
 use term::words::SPAWN;
 use term::words::k;
 use term::words::tag;
-ghost use mathlib.Core.Path.{_≡_};
-ghost use Prim.Native.Nat.{ℕ, _<_, _≤_, _+_, _*_, _-_};
+ghost use Prim.Native.Nat.{_<_, _≤_};
 ghost use lib.ListN.{length};
 ghost use Rattle.step.specs.Controls.{CallDoing, CaseDoing, SendDoing, DoingAt, DoingOf};
 

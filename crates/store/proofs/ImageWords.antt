@@ -1,21 +1,16 @@
 -- Images are made of 32-bit words, where the module and the controls are.
-use Prim.Native.Nat.{ℕ, _≤_, _<_}
+use Prim.Native.Nat.{ℕ, _≤_}
 use mathlib.Core.Path.{_≡_, refl, ap}
-use mathlib.Core.Logic.{inl, inr}
-use mathlib.Core.Bool.{true}
 use mathlib.Core.Option.{Option, none, some}
 use mathlib.Core.List.{List, _∷_, map, reverse}
-use native.Mathlib.Nat.{mul-le-mul}
 use native.Mathlib.Omega.{arith}
-use lib.Dec.{ltb}
 use lib.ListN.{length, length-append, length-map}
 use Rattle.lists.specs.Lists.{All, upTo, joined}
 use Rattle.lists.specs.Fill.{fillTo}
-use Rattle.lists.proofs.Tests.{true-or-false, true-not-false, ltb-true, ltb-false}
 use Rattle.lists.proofs.All.{all-so, all-both, all-any, all-map, all-append, all-joined, all-reverse, all-none}
 use Rattle.lists.proofs.Fill.{all-fill}
 use Rattle.term.specs.Module.{longestModule}
-use Rattle.rules.specs.State.{Sizes, Message, Kind, seq, send, rec, spawn, self, check, asRec, asSpawn, asCheck, Entry, Process, State, historyOf, historyAt, entryAt, inPool}
+use Rattle.rules.specs.State.{Sizes, Message, Kind, seq, send, rec, spawn, self, check, asRec, asSpawn, asCheck, Entry, Process, State, historyOf, historyAt, entryAt}
 use Rattle.rules.specs.Sound.{SentTo, Sound}
 use Rattle.rules.specs.Depends.{queueBefore}
 use Rattle.store.specs.Layout.{namesRoom, slotCount, nameWord, Slot, freeSlot, slotWords, kindNumber, numberIn, entrySlot, placeSlots, slotsAt, block, head, laid, image}
@@ -23,7 +18,8 @@ use Rattle.store.specs.Image.{IsWord, Worded}
 use Rattle.store.proofs.Lengths.{blockAt}
 use Rattle.store.proofs.Restoring.{Kept, KeptQueue, KeptEntry}
 use Rattle.store.proofs.Histories.{all-entries}
-use Rattle.store.proofs.SoundStates.{SizesIn, sizes-in, numbered, storable}
+use Rattle.store.proofs.LayoutLaws.{names-most}
+use Rattle.store.proofs.SoundStates.{SizesIn, sizes-in, in-places, numbered, storable}
 
 -- ---- a slot, a block
 
@@ -92,16 +88,6 @@ module _ (s : State) (sound : Sound s) (words : Worded s) where
   sizes : SizesIn (s .sizes)
   sizes = sizes-in (s .sizes) (sound .sizes-pass)
 
-  -- at most P·H ≤ 1,024 messages
-  room-small : namesRoom (s .sizes) ≤ 1024
-  room-small = mul-le-mul {n₁ = s .sizes .places} {m₁ = s .sizes .entries} {n₂ = 16} {m₂ = 64} (sizes .places-high) (sizes .entries-high)
-
-  in-pool-below : (p : ℕ) → inPool s p ≡ true → p < s .sizes .places
-  in-pool-below p e = elim (true-or-false (ltb p (s .sizes .places))) [
-    | inl t ↦ ltb-true p (s .sizes .places) t
-    | inr f ↦ true-not-false e (sound .pool-ends p (ltb-false p (s .sizes .places) f))
-  ]
-
   -- names: a sender below 16 and a count below 64
   names-word : (queue : List Message) → KeptQueue s queue → All IsWord (map nameWord queue)
   unfolding SentTo
@@ -122,9 +108,9 @@ module _ (s : State) (sound : Sound s) (words : Worded s) where
       go : (kind : Kind) → e .kind ≡ kind → length (queueBefore (asRec kind)) ≤ namesRoom (s .sizes) → IsWord (numberIn kind)
       go seq same fits = omega arith
       go (send target value) same fits = omega arith
-      go (rec older m newer) same fits = omega (arith, length-append older (m ∷ newer), room-small)
+      go (rec older m newer) same fits = omega (arith, length-append older (m ∷ newer), names-most (s .sizes) (sound .sizes-pass))
       go (spawn child) same fits =
-          omega (arith, in-pool-below child (sound .children-in-pool child p i (record { entry = e; stands = stands; spawns = ap asSpawn same })), sizes .places-high)
+          omega (arith, in-places s sound child (sound .children-in-pool child p i (record { entry = e; stands = stands; spawns = ap asSpawn same })), sizes .places-high)
       go self same fits = omega arith
       go (check number) same fits = omega (arith, sound .check-numbers p i number e stands (ap asCheck same))
 
@@ -137,7 +123,7 @@ module _ (s : State) (sound : Sound s) (words : Worded s) where
     kind-word = small-kind (e .kind);
     number-word = b .0 x;
     control-length = omega (arith, x .before-fits, sizes .words-high);
-    names-length = omega (arith, length-map (queueBefore (asRec (e .kind))) nameWord, x .queue .fits, room-small);
+    names-length = omega (arith, length-map (queueBefore (asRec (e .kind))) nameWord, x .queue .fits, names-most (s .sizes) (sound .sizes-pass));
     control-words = b .1;
     names-words = names-word (queueBefore (asRec (e .kind))) (x .queue);
   }
@@ -155,7 +141,7 @@ module _ (s : State) (sound : Sound s) (words : Worded s) where
           kind-word = omega arith;
           number-word = omega arith;
           control-length = omega (arith, f process refl, sizes .words-high);
-          names-length = omega (arith, length-map queue nameWord, k .fits, room-small);
+          names-length = omega (arith, length-map queue nameWord, k .fits, names-most (s .sizes) (sound .sizes-pass));
           control-words = w process refl;
           names-words = names-word queue k;
         },

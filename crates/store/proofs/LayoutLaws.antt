@@ -1,5 +1,5 @@
 -- Sizes in range: how far the numbers of the layout go.
-use Prim.Native.Nat.{ℕ, _+_, _*_, _≤_, _<_}
+use Prim.Native.Nat.{ℕ, suc, _+_, _*_, _≤_, _<_}
 use mathlib.Core.Path.{_≡_, sym, _∙_}
 use mathlib.Core.Bool.{true, false}
 use mathlib.Core.Logic.{inl, inr}
@@ -10,7 +10,7 @@ use Rattle.lists.proofs.Tests.{leb-of, leb-true, and-of, true-or-false, true-no
 use Rattle.lists.proofs.Blocks.{block-in}
 use Rattle.rules.specs.State.{Sizes}
 use Rattle.rules.specs.Load.{goodSizes}
-use Rattle.store.specs.Layout.{blocksFrom, namesRoom, slotSize, slotCount, blockSize, needed}
+use Rattle.store.specs.Layout.{blocksFrom, namesRoom, slotSize, slotCount, blockSize, needed, mostPlaces, mostEntries, mostNames, longestSlot, longestBlock}
 use Rattle.store.specs.Sizing.{sizesOf}
 use Rattle.store.proofs.SoundStates.{SizesIn, sizes-in}
 
@@ -36,17 +36,17 @@ last-size places entries words a b c d e = elim (true-or-false (leb words 255)) 
 -- ---- how far the numbers go
 
 module _ (sizes : Sizes) (good : goodSizes sizes ≡ true) where
-  pub names-most : namesRoom sizes ≤ 1024
-  names-most = let x = sizes-in sizes good in mul-le-mul {n₁ = sizes .places} {m₁ = sizes .entries} {n₂ = 16} {m₂ = 64} (x .places-high) (x .entries-high)
+  pub names-most : namesRoom sizes ≤ mostNames
+  names-most = let x = sizes-in sizes good in mul-le-mul {n₁ = sizes .places} {m₁ = sizes .entries} {n₂ = mostPlaces} {m₂ = mostEntries} (x .places-high) (x .entries-high)
 
-  pub slot-most : slotSize sizes ≤ 1287
+  pub slot-most : slotSize sizes ≤ longestSlot
   slot-most = omega (arith, names-most, sizes-in sizes good .words-high)
 
-  pub block-most : blockSize sizes ≤ 83655
-  block-most = let x = sizes-in sizes good in mul-le-mul {n₁ = slotCount sizes} {m₁ = slotSize sizes} {n₂ = 65} {m₂ = 1287} (omega (arith, x .entries-high)) slot-most
+  pub block-most : blockSize sizes ≤ longestBlock
+  block-most = let x = sizes-in sizes good in mul-le-mul {n₁ = slotCount sizes} {m₁ = slotSize sizes} {n₂ = suc mostEntries} {m₂ = longestSlot} (omega (arith, x .entries-high)) slot-most
 
-  pub blocks-most : sizes .places * blockSize sizes ≤ 1338480
-  blocks-most = let x = sizes-in sizes good in mul-le-mul {n₁ = sizes .places} {m₁ = blockSize sizes} {n₂ = 16} {m₂ = 83655} (x .places-high) block-most
+  pub blocks-most : sizes .places * blockSize sizes ≤ mostPlaces * longestBlock
+  blocks-most = let x = sizes-in sizes good in mul-le-mul {n₁ = sizes .places} {m₁ = blockSize sizes} {n₂ = mostPlaces} {m₂ = longestBlock} (x .places-high) block-most
 
   -- a slot lies within the needed words
   pub slot-within : (p i : ℕ) → p < sizes .places → i ≤ sizes .entries → blocksFrom + p * blockSize sizes + i * slotSize sizes + slotSize sizes ≤ needed sizes

@@ -1,7 +1,7 @@
 -- A block and its slots, a slot and its words: what is lent, and what comes back.
 use Prim.Native.Nat.{ℕ, _+_, _*_, _≤_, _<_}
 use mathlib.Core.Path.{_≡_, refl, sym, _∙_, ap}
-use mathlib.Core.List.{List, [], _∷_, _++_, map, append-assoc}
+use mathlib.Core.List.{List, [], _∷_, _++_, map}
 use native.Mathlib.Omega.{arith}
 use lib.ListN.{length, take, drop, getD, set, replicate, replicate-append-replicate}
 use lib.Seq.{take-all, take-at, drop-at, drop-drop, take-append-le}
@@ -10,7 +10,7 @@ use Rattle.lists.specs.Lists.{joined}
 use Rattle.lists.specs.Fill.{fillTo}
 use Rattle.lists.proofs.All.{map-at, map-set}
 use Rattle.lists.proofs.Fill.{length-fill, take-fill, fill-none, getD-fill, fill-set, fill-more, fill-less}
-use Rattle.lists.proofs.Blocks.{block-lent-alone, block-back-alone, three-runs}
+use Rattle.lists.proofs.Blocks.{block-lent-alone, block-back-alone}
 use Rattle.rules.specs.State.{Sizes}
 use Rattle.store.specs.Layout.{slotHead, namesRoom, slotSize, slotCount, Slot, freeSlot, slotWords, block}
 use Rattle.store.proofs.Lengths.{each-slot, slots-in}
@@ -74,14 +74,6 @@ module _ (sizes : Sizes) (x : Slot) where
       let names = fillTo (namesRoom sizes) 0 (x .names) in
       ap (take (namesRoom sizes)) (sym (drop-drop (sizes .words) slotHead (slotFront x ++ (control ++ names))) ∙ drop-at control names (sizes .words) (length-fill (sizes .words) 0 (x .control)))
       ∙ take-all (namesRoom sizes) names (omega (arith, length-fill (namesRoom sizes) 0 (x .names)))
-
-  -- a slot written in three runs: its front, its control, its names
-  pub slot-made : (l a b c : List ℕ) → length l ≡ slotSize sizes → a ≡ putMid 0 slotHead l (slotFront x) → b ≡ putMid slotHead (sizes .words) a (fillTo (sizes .words) 0 (x .control))
-      → c ≡ putMid (slotHead + sizes .words) (namesRoom sizes) b (fillTo (namesRoom sizes) 0 (x .names)) → c ≡ slotWords sizes x
-  unfolding slotWords
-  slot-made l a b c long ea eb ec =
-      three-runs slotHead (sizes .words) (namesRoom sizes) l (slotFront x) (fillTo (sizes .words) 0 (x .control)) (fillTo (namesRoom sizes) 0 (x .names)) a b c (omega arith) refl (length-fill (sizes .words) 0 (x .control)) ea eb ec
-      ∙ append-assoc (slotFront x) (fillTo (sizes .words) 0 (x .control)) (fillTo (namesRoom sizes) 0 (x .names))
 
 -- ---- the slots of a block
 

@@ -18,6 +18,7 @@ use Rattle.rules.specs.Flight.{sends, alsoTaken, taken}
 use Rattle.rules.specs.Load.{goodSizes}
 use Rattle.rules.specs.Sound.{SoundControl, AboutToSend, SentTo, Prefix, Flows, Sound}
 use Rattle.rules.specs.Depends.{queueBefore}
+use Rattle.store.specs.Layout.{mostPlaces, mostEntries, mostWords}
 use Rattle.store.proofs.Restoring.{Kept, KeptQueue, KeptEntry}
 use Rattle.store.proofs.Decoding.{Storable}
 use Rattle.store.proofs.Histories.{all-entries, sends-few, sent-below}
@@ -27,11 +28,11 @@ use Rattle.store.proofs.Names.{Numbered, nameNumber, nameNumbers, names
 
 pub record SizesIn (sizes : Sizes) : Type 0 where
   pub places-low : 1 ≤ sizes .places
-  pub places-high : sizes .places ≤ 16
+  pub places-high : sizes .places ≤ mostPlaces
   pub entries-low : 1 ≤ sizes .entries
-  pub entries-high : sizes .entries ≤ 64
+  pub entries-high : sizes .entries ≤ mostEntries
   pub words-low : 16 ≤ sizes .words
-  pub words-high : sizes .words ≤ 255
+  pub words-high : sizes .words ≤ mostWords
 
 pub sizes-in : (sizes : Sizes) → goodSizes sizes ≡ true → SizesIn sizes
 unfolding goodSizes
@@ -78,6 +79,13 @@ outside s p e = go (s .processes p) e
 pub not-in-pool : (s : State) (p : ℕ) → s .processes p ≡ none → inPool s p ≡ false
 unfolding inPool isProcess
 not-in-pool s p e = ap isProcess e
+
+-- the pool has no more than P places
+pub in-places : (s : State) → Sound s → (p : ℕ) → inPool s p ≡ true → p < s .sizes .places
+in-places s sound p e = elim (true-or-false (ltb p (s .sizes .places))) [
+  | inl t ↦ ltb-true p (s .sizes .places) t
+  | inr f ↦ true-not-false e (sound .pool-ends p (ltb-false p (s .sizes .places) f))
+]
 
 no-history : (s : State) (p : ℕ) → s .processes p ≡ none → historyAt s p ≡ []
 unfolding historyAt historyOf

@@ -39,6 +39,29 @@ blockSize sizes = slotCount sizes * slotSize sizes
 abbrev pub needed : Sizes → ℕ
 needed sizes = blocksFrom + sizes .places * blockSize sizes
 
+-- the most that sizes in 01's ranges allow (`goodSizes` of rules/specs/Load): places, entries, words of a control, names of a queue, words
+-- of a slot, of a block and of a store
+abbrev pub mostPlaces : ℕ
+mostPlaces = 16
+
+abbrev pub mostEntries : ℕ
+mostEntries = 64
+
+abbrev pub mostWords : ℕ
+mostWords = 255
+
+abbrev pub mostNames : ℕ
+mostNames = mostPlaces * mostEntries
+
+abbrev pub longestSlot : ℕ
+longestSlot = slotHead + (mostWords + mostNames)
+
+abbrev pub longestBlock : ℕ
+longestBlock = suc mostEntries * longestSlot
+
+abbrev pub longestStore : ℕ
+longestStore = blocksFrom + mostPlaces * longestBlock
+
 -- the kinds of slots: free, an entry of each kind, the present of a process
 abbrev pub kindFree : ℕ
 kindFree = 0

@@ -17,7 +17,7 @@ use Rattle.store.specs.Image.{IsImage}
 use Rattle.store.specs.Layout.{blocksFrom, slotHead, slotSize, blockSize, kindRec, kindSpawn, kindLive, kindNumber, numberIn, nameWord, Slot, freeSlot, slotWords, presentSlot, placeSlots, slotsAt, block, image}
 use Rattle.store.proofs.Lengths.{length-slot}
 use Rattle.store.proofs.LayoutLaws.{names-most}
-use Rattle.store.proofs.SoundStates.{sizes-in, outside}
+use Rattle.store.proofs.SoundStates.{sizes-in, outside, in-places}
 use Rattle.store.proofs.Moves.{elsewhere-then, standing, turn-elsewhere, turn-slots, rec-elsewhere, rec-slots, process-elsewhere, process-slots, born-block}
 use Rattle.reading.specs.Reads.{Holds, OfState, IsPlace, controlAt}
 use Rattle.reading.proofs.Holding.{of-image, at-image, holding, of-state}
@@ -26,7 +26,7 @@ use Rattle.writing.specs.Slots.{headed, controlled, without, begun, with
 use Rattle.writing.specs.Writes.{Leads, grown, Enters, Takes, Spawns, CanGrow, CanTake, CanSpawn}
 use Rattle.writing.proofs.SlotWrites.{names-count, withControl, withNames, controlled-slot, headed-slot, without-slot, front-slot, begun-slot}
 use Rattle.writing.proofs.SlotCode.{mid-long}
-use Rattle.writing.proofs.StoreWrites.{in-places, slot-there, slot-put, queue-few, present-lent, present-word, present-front, present-changed, front-put, elsewhere-back, standing-there, free-there, free-inside, made-image}
+use Rattle.writing.proofs.StoreWrites.{slot-there, slot-put, queue-few, present-lent, present-word, present-front, present-changed, front-put, elsewhere-back, standing-there, free-there, free-inside, made-image}
 use Rattle.writing.proofs.PostLaws.{span-size}
 
 -- ---- lists

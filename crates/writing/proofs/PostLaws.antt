@@ -11,6 +11,7 @@ use borrow.Rule.Slice.PartMut.{midOf, putMid}
 use Rattle.lists.specs.Lists.{butLast}
 use Rattle.lists.proofs.Tests.{true-or-false}
 use Rattle.rules.specs.Sound.{Sound}
+use Rattle.store.proofs.SoundStates.{in-places}
 use Rattle.store.proofs.LayoutLaws.{names-most}
 use Rattle.rules.specs.State.{Message, Process, State, inPool}
 use Rattle.rules.specs.Commands.{post, apply}
@@ -25,7 +26,7 @@ use Rattle.writing.specs.Slots.{pushed, without, within, Spanned, NamesR
 use Rattle.writing.specs.Writes.{Leads, Posts, Unposts, CanPost, CanTake}
 use Rattle.reading.proofs.Holding.{of-image, at-image, holding, of-state}
 use Rattle.writing.proofs.SlotWrites.{names-count, withNames, pushed-slot, without-slot}
-use Rattle.writing.proofs.StoreWrites.{in-places, queue-few, present-lent, present-changed}
+use Rattle.writing.proofs.StoreWrites.{queue-few, present-lent, present-changed}
 
 -- the span's length as the code has it
 pub span-size : {p i : ℕ} {l : List ℕ} {r : Span} → Spanned p i l r → r .«end» - r .from ≡ r .size

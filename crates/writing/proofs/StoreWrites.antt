@@ -2,15 +2,12 @@
 use Prim.Native.Nat.{ℕ, suc, _+_, _*_, _≤_, _<_}
 use mathlib.Core.Path.{_≡_, refl, sym, _∙_, ap}
 use mathlib.Core.Bool.{true}
-use mathlib.Core.Logic.{inl, inr}
 use mathlib.Core.Option.{Option, some}
 use mathlib.Core.List.{List, [], _∷_, _++_, map, reverse}
 use native.Mathlib.Omega.{arith}
-use lib.Dec.{ltb}
 use lib.ListN.{length, take, drop, getD, set, length-map, List·getD-eq-default}
 use lib.Seq.{getD-take, getD-drop}
 use borrow.Rule.Slice.PartMut.{midOf, putMid}
-use Rattle.lists.proofs.Tests.{true-or-false, true-not-false, ltb-true, ltb-false}
 use Rattle.lists.proofs.Blocks.{block-in, mid-mid, put-put}
 use Rattle.rules.specs.State.{Entry, Process, State, historyOf, historyAt, inPool}
 use Rattle.rules.specs.Commands.{nothing, turn, apply}
@@ -23,13 +20,6 @@ use Rattle.reading.specs.Reads.{controlOf, controlAt}
 use Rattle.store.proofs.SoundStates.{storable}
 use Rattle.store.proofs.View.{ElsewhereSame, long-enough, block-within, place-lent, place-back, slot-read}
 use Rattle.writing.specs.Slots.{within}
-
--- the pool has no more than P places
-pub in-places : (s : State) → Sound s → (p : ℕ) → inPool s p ≡ true → p < s .sizes .places
-in-places s sound p h = elim (true-or-false (ltb p (s .sizes .places))) [
-  | inl t ↦ ltb-true p (s .sizes .places) t
-  | inr f ↦ true-not-false h (sound .pool-ends p (ltb-false p (s .sizes .places) f))
-]
 
 module _ (s : State) (rest l : List ℕ) (e : l ≡ image s ++ rest) (p i from size : ℕ) (hp : p < s .sizes .places) (hi : i < slotCount (s .sizes))
     (a : from ≡ blocksFrom + p * blockSize (s .sizes) + i * slotSize (s .sizes)) (c : size ≡ slotSize (s .sizes)) where

@@ -20,6 +20,7 @@ use Rattle.rules.specs.Depends.{queueBefore}
 use Rattle.rules.specs.Commands.{nothing, ownQueue, other, turn, setProcess, setBeside, setQueue, apply, Plan, need, undone, isNew, untouched, undoing, backing, atProcess, back, run, afterPlan, runState}
 use Rattle.store.specs.Image.{IsImage}
 use Rattle.store.specs.Layout.{blocksFrom, slotHead, slotSize, blockSize, kindRec, kindSpawn, kindLive, kindNumber, numberIn, nameWord, Slot, freeSlot, slotWords, entrySlot, presentSlot, placeSlots, slotsAt, block, image}
+use Rattle.store.proofs.SoundStates.{in-places}
 use Rattle.store.proofs.View.{ElsewhereSame}
 use Rattle.store.proofs.Slots.{slot-freed}
 use Rattle.store.proofs.Moves.{elsewhere-then, standing, turn-elsewhere, turn-slots, rec-elsewhere, rec-slots, process-elsewhere, process-slots, grown, length-slots}
@@ -30,7 +31,7 @@ use Rattle.writing.specs.Slots.{headed, within, copied, cleared, shrunkW
 use Rattle.writing.specs.Writes.{Leads, Undoes, CanUndo}
 use Rattle.writing.proofs.SlotWrites.{names-count, headed-slot, front-slot}
 use Rattle.writing.proofs.SlotCode.{cleared-written}
-use Rattle.writing.proofs.StoreWrites.{in-places, slot-inside, slot-there, slot-put, present-word, present-changed, front-put, elsewhere-back}
+use Rattle.writing.proofs.StoreWrites.{slot-inside, slot-there, slot-put, present-word, present-changed, front-put, elsewhere-back}
 use Rattle.writing.proofs.PostLaws.{span-size}
 
 -- ---- what an accepted undo does

@@ -7,7 +7,7 @@ use borrow.Rule.Slice.PartMut.{midOf, putMid}
 use Rattle.lists.specs.Fill.{fillTo}
 use Rattle.rules.specs.State.{State}
 use Rattle.reading.specs.Reads.{OfState}
-use Rattle.store.specs.Layout.{kindRec, kindLive, slotHead, blocksFrom, slotSize, blockSize}
+use Rattle.store.specs.Layout.{kindRec, kindLive, slotHead, blocksFrom, slotSize, blockSize, mostWords, mostNames, longestSlot, longestStore}
 use Rattle.writing.specs.declared.spans.Span.{Span}
 
 -- ---- a slot
@@ -78,10 +78,10 @@ pub record Located (p i : ℕ) (r : Span) (s : State) : Type 0 where
 pub record Spanned (p i : ℕ) (l : List ℕ) (r : Span) : Type 0 where
   pub adds : r .«end» ≡ r .from + r .size
   pub inside : r .«end» ≤ length l
-  pub low : r .«end» ≤ 1338996
+  pub low : r .«end» ≤ longestStore
   pub head-in : slotHead + r .words ≤ r .size
-  pub few-words : r .words ≤ 255
-  pub small : r .size ≤ 1287
+  pub few-words : r .words ≤ mostWords
+  pub small : r .size ≤ longestSlot
   pub there : OfState l (Located p i r)
 
 -- ---- room
@@ -90,19 +90,19 @@ pub record Spanned (p i : ℕ) (l : List ℕ) (r : Span) : Type 0 where
 pub record ControlRoom (words : ℕ) (control w : List ℕ) : Type 0 where
   pub within-slot : slotHead + words ≤ length w
   pub short : length control ≤ words
-  pub few : words ≤ 255
+  pub few : words ≤ mostWords
 
 -- a slot has room for the names that it has
 pub record NamesRoom (words : ℕ) (w : List ℕ) : Type 0 where
   pub within-slot : slotHead + words + getD w 4 0 ≤ length w
-  pub few : getD w 4 0 ≤ 1024
+  pub few : getD w 4 0 ≤ mostNames
 
 -- two runs of words, each within a store
 pub record CopyRoom (from to count : ℕ) (l : List ℕ) : Type 0 where
   pub source : from + count ≤ length l
   pub target : to + count ≤ length l
   pub least : slotHead ≤ count
-  pub most : count ≤ 1287
+  pub most : count ≤ longestSlot
 
 -- the names of a slot, one of them at this place, and a control that comes
 pub record InRoom (words place : ℕ) (control w : List ℕ) : Type 0 where
@@ -115,8 +115,8 @@ pub record TwoSlots (from end to words : ℕ) (l : List ℕ) : Type 0 where
   pub head-in : from + (slotHead + words) ≤ end
   pub inside : end ≤ length l
   pub other : to + (end - from) ≤ length l
-  pub few : words ≤ 255
-  pub small : end - from ≤ 1287
+  pub few : words ≤ mostWords
+  pub small : end - from ≤ longestSlot
 
 pub record GrowRoom (from end to words : ℕ) (next l : List ℕ) : Type 0 where
   pub slots : TwoSlots from end to words l

@@ -1,12 +1,12 @@
 -- What is written into a store, said of the state that it held. Assumes nothing: these are definitions.
-use Prim.Native.Nat.{ℕ, suc, _*_, _≤_, _<_}
+use Prim.Native.Nat.{ℕ, _*_, _≤_, _<_}
 use mathlib.Core.Path.{_≡_}
 use mathlib.Core.Bool.{true, false}
 use mathlib.Core.Option.{none, some}
 use mathlib.Core.List.{List, [], _∷_, _++_}
 use lib.ListN.{length}
 use Rattle.lists.specs.Lists.{butLast}
-use Rattle.rules.specs.State.{Message, Kind, rec, spawn, asRec, Entry, Process, State, historyAt, inPool}
+use Rattle.rules.specs.State.{Message, Kind, rec, spawn, asRec, Process, State, historyAt, inPool}
 use Rattle.rules.specs.Load.{newProcess}
 use Rattle.rules.specs.Commands.{nothing, ownQueue, other, turn, post, entry, apply, back, runState}
 use Rattle.store.specs.Layout.{kindNumber, numberIn, nameWord, image}

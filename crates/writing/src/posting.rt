@@ -4,7 +4,7 @@ use crate::slots::push;
 use crate::spans::locate;
 ghost use mathlib.Core.Path.{_≡_};
 ghost use Prim.Native.Nat.{_-_, _<_};
-ghost use lib.ListN.{length, getD};
+ghost use lib.ListN.{getD};
 ghost use Rattle.store.specs.Image.{IsImage};
 ghost use Rattle.reading.specs.Reads.{OfState};
 ghost use Rattle.writing.specs.Slots.{without, NamesRoom};

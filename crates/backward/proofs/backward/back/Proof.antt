@@ -1,4 +1,6 @@
-use Rattle.backward.proofs.AnswerLaws.{no-state, a-state, state-answers}
+-- `back` meets its contract.
+use Rattle.lists.proofs.Tests.{not-false, not-true}
+use Rattle.calls.proofs.Answering.{call-does, call-ready, call-refuses}
 use borrow.Author.Needs.{needs}
 use Rattle.backward.proofs.backward.back.Statement.{statement}
 use Rattle.backward.proofs.backward.back.Tie as tie
@@ -10,16 +12,16 @@ same-length : tie.Need-same-length
 same-length c = search needs
 
 returns : tie.Need-returns
-returns c = no-state _ _ _ (c .before .sound .ensures) (c .if1 .taken)
+returns c = call-refuses _ _ (c .before .sound .ensures) _ (not-true _ (c .if1 .taken))
 
 back-held-requires : tie.Need-back-held-requires
-back-held-requires c κs = a-state _ _ (c .before .before .sound .ensures) (c .before .if1 .left)
+back-held-requires c κs = call-ready _ _ (c .before .before .sound .ensures) (not-false _ (c .before .if1 .left))
 
 same-length-2 : tie.Need-same-length-2
 same-length-2 c = search needs
 
 returns-2 : tie.Need-returns-2
-returns-2 c = state-answers _ _ _ _ (c .before .before .before .before .before .sound .ensures) (c .before .before .before .before .if1 .left) _ (c .before .before .back-held .ensures)
+returns-2 c = call-does _ _ (c .before .before .before .before .before .sound .ensures) _ _ _ (not-false _ (c .before .before .before .before .if1 .left)) (c .before .before .back-held .ensures)
 
 pub back-spec : {M : Type 1} → statement M
 back-spec =

@@ -1,3 +1,4 @@
+-- `back_held` meets its contract.
 use Rattle.backward.proofs.AnswerLaws.{pool-place, back-no-process, back-nothing, back-newest, back-held, back-can, back-done}
 use borrow.Author.Needs.{needs}
 use Rattle.backward.proofs.backward.back_held.Statement.{statement}

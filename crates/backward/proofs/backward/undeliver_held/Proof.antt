@@ -1,3 +1,4 @@
+-- `undeliver_held` meets its contract.
 use Rattle.backward.proofs.AnswerLaws.{pool-place, undeliver-no-process, undeliver-nothing, undeliver-held, undeliver-can, undeliver-done}
 use borrow.Author.Needs.{needs}
 use Rattle.backward.proofs.backward.undeliver_held.Statement.{statement}

@@ -1,3 +1,4 @@
+-- `flying` meets its contract.
 use native.Mathlib.Omega.{arith}
 use Rattle.backward.proofs.FlyingLaws.{send-small, send-place, send-count, send-within, target-place, flying-is}
 use borrow.Author.Needs.{needs}

@@ -1,5 +1,5 @@
+-- `left` meets its contract.
 use borrow.Author.Needs.{needs}
-use native.Mathlib.Omega.{arith}
 use Rattle.reading.specs.Reads.{OfState}
 use Rattle.backward.proofs.LeftLaws.{NoRecFrom, left-start, left-ends, left-entry, left-again, left-some, left-found}
 use Rattle.backward.proofs.held.left.Statement.{statement}

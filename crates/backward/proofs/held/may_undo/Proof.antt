@@ -1,3 +1,4 @@
+-- `may_undo` meets its contract.
 use Rattle.backward.proofs.HeldLaws.{newest-entry, newest-place, newest-send, undo-send, undo-rec, child-lives, undo-spawn, undo-alone}
 use borrow.Author.Needs.{needs}
 use Rattle.backward.proofs.held.may_undo.Statement.{statement}

@@ -1,4 +1,6 @@
-use Rattle.backward.proofs.FlyingLaws.{lives-place, untouched-not, untouched-queued, untouched-awaited}
+-- `untouched` meets its contract.
+use Rattle.reading.proofs.StateReads.{lives-place}
+use Rattle.backward.proofs.FlyingLaws.{untouched-not, untouched-queued, untouched-awaited}
 use Rattle.backward.proofs.held.untouched.Statement.{statement}
 use Rattle.backward.proofs.held.untouched.Tie as tie
 

@@ -6,8 +6,6 @@ use Rattle.calls.specs.declared.answers.Answer.the-variants.{NoProcess, 
 use Rattle.calls.proofs.AnswerNumbers.{number-is, done-number}
 use Rattle.calls.proofs.answers.number.Statement.{statement}
 use Rattle.calls.proofs.answers.number.Tie as tie
-use Rattle.calls.proofs.answers.number.Reads as reads
-use Rattle.calls.proofs.answers.number.Lts as lts
 
 pub number-spec : {M : Type 1} → statement M
 unfolding numberOf

@@ -6,8 +6,6 @@ use Rattle.calls.specs.declared.answers.Answer.the-variants.{NoProcess, 
 use Rattle.calls.proofs.AnswerNumbers.{value-is, told-value}
 use Rattle.calls.proofs.answers.value.Statement.{statement}
 use Rattle.calls.proofs.answers.value.Tie as tie
-use Rattle.calls.proofs.answers.value.Reads as reads
-use Rattle.calls.proofs.answers.value.Lts as lts
 
 pub value-spec : {M : Type 1} → statement M
 unfolding valueOf

@@ -1,3 +1,4 @@
+-- `deliver_sound` meets its contract.
 use borrow.Author.Needs.{needs}
 use Rattle.lists.proofs.Tests.{not-false, not-true}
 use Rattle.forward.proofs.Delivering.{deliver-found, deliver-nowhere, sender-lives, deliver-outside}

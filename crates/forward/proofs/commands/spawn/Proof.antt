@@ -1,6 +1,7 @@
+-- `spawn` meets its contract.
 use borrow.Author.Needs.{needs}
 use Rattle.lists.proofs.Tests.{not-false, not-true}
-use Rattle.forward.proofs.Calling.{call-does, call-ready, call-refuses}
+use Rattle.calls.proofs.Answering.{call-does, call-ready, call-refuses}
 use Rattle.forward.proofs.commands.spawn.Statement.{statement}
 use Rattle.forward.proofs.commands.spawn.Tie as tie
 

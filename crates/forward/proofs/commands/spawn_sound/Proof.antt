@@ -1,3 +1,4 @@
+-- `spawn_sound` meets its contract.
 use native.Mathlib.Omega.{arith}
 use borrow.Author.Needs.{needs}
 use Rattle.lists.proofs.Tests.{not-false, not-true}

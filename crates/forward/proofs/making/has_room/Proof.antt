@@ -1,10 +1,12 @@
+-- `has_room` meets its contract.
 use borrow.Author.Needs.{needs}
-use Rattle.forward.proofs.Living.{room-is, of-place}
+use Rattle.reading.proofs.StateReads.{lives-place}
+use Rattle.forward.proofs.Living.{room-is}
 use Rattle.forward.proofs.making.has_room.Statement.{statement}
 use Rattle.forward.proofs.making.has_room.Tie as tie
 
 entry-count-requires : tie.Need-entry-count-requires
-entry-count-requires c κs = search of-place
+entry-count-requires c κs = search lives-place
 
 most-entries-requires : tie.Need-most-entries-requires
 most-entries-requires c κs = search needs

@@ -1,3 +1,4 @@
+-- `make` meets its contract.
 use borrow.Author.Needs.{needs}
 use Rattle.lists.proofs.Tests.{not-true, not-false}
 use Rattle.forward.proofs.Made.{entry-large, entry-nothing, entry-done, entry-full, grow-ready, part-length}

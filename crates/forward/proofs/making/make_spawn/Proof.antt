@@ -1,3 +1,4 @@
+-- `make_spawn` meets its contract.
 use borrow.Author.Needs.{needs}
 use Rattle.forward.proofs.Made.{spawn-full, spawn-large, spawn-nothing, spawn-done, grow-ready, part-length}
 use Rattle.forward.proofs.making.make_spawn.Statement.{statement}

@@ -1,10 +1,12 @@
+-- `doing` meets its contract.
 use Rattle.forward.proofs.NextRows.{doing-is}
-use Rattle.forward.proofs.Living.{control-short, of-place}
+use Rattle.reading.proofs.StateReads.{lives-place}
+use Rattle.forward.proofs.Living.{control-short}
 use Rattle.forward.proofs.next.doing.Statement.{statement}
 use Rattle.forward.proofs.next.doing.Tie as tie
 
 control-requires : tie.Need-control-requires
-control-requires c κs = search of-place
+control-requires c κs = search lives-place
 
 about-to-requires : tie.Need-about-to-requires
 about-to-requires c κs = search control-short

@@ -1,11 +1,13 @@
+-- `send_row` meets its contract.
 use borrow.Author.Needs.{needs}
 use Rattle.forward.proofs.NextRows.{send-row-is}
-use Rattle.forward.proofs.Living.{control-short, of-place}
+use Rattle.reading.proofs.StateReads.{lives-place}
+use Rattle.forward.proofs.Living.{control-short}
 use Rattle.forward.proofs.next.send_row.Statement.{statement}
 use Rattle.forward.proofs.next.send_row.Tie as tie
 
 control-requires : tie.Need-control-requires
-control-requires c κs = search of-place
+control-requires c κs = search lives-place
 
 send-next-requires : tie.Need-send-next-requires
 send-next-requires c κs = search control-short

@@ -1,6 +1,8 @@
+-- `seq_row` meets its contract.
 use borrow.Author.Needs.{needs}
 use Rattle.forward.proofs.NextRows.{seq-row-is}
-use Rattle.forward.proofs.Living.{program-short, control-short, of-place}
+use Rattle.reading.proofs.StateReads.{lives-place}
+use Rattle.forward.proofs.Living.{program-short, control-short}
 use Rattle.forward.proofs.next.seq_row.Statement.{statement}
 use Rattle.forward.proofs.next.seq_row.Tie as tie
 
@@ -8,7 +10,7 @@ program-requires : tie.Need-program-requires
 program-requires c κs = search needs
 
 control-requires : tie.Need-control-requires
-control-requires c κs = search of-place
+control-requires c κs = search lives-place
 
 seq-next-requires : tie.Need-seq-next-requires
 seq-next-requires c κs = search (control-short, program-short)

@@ -1,11 +1,13 @@
+-- `word_row` meets its contract.
 use borrow.Author.Needs.{needs}
 use Rattle.forward.proofs.NextRows.{word-row-is}
-use Rattle.forward.proofs.Living.{control-short, of-place}
+use Rattle.reading.proofs.StateReads.{lives-place}
+use Rattle.forward.proofs.Living.{control-short}
 use Rattle.forward.proofs.next.word_row.Statement.{statement}
 use Rattle.forward.proofs.next.word_row.Tie as tie
 
 control-requires : tie.Need-control-requires
-control-requires c κs = search of-place
+control-requires c κs = search lives-place
 
 word-next-requires : tie.Need-word-next-requires
 word-next-requires c κs = search control-short

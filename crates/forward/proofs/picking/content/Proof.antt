@@ -1,3 +1,4 @@
+-- `content` meets its contract.
 use borrow.Author.Needs.{needs}
 use Rattle.forward.proofs.Mailing.{content-found, content-send, content-nowhere, sender-place}
 use Rattle.forward.proofs.picking.content.Statement.{statement}

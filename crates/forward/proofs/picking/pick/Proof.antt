@@ -1,3 +1,4 @@
+-- `pick` meets its contract.
 use Prim.Native.Nat.{_≤_, _-_}
 use mathlib.Core.Path.{refl, _≡_}
 use native.Mathlib.Omega.{arith}
@@ -5,7 +6,7 @@ use lib.ListN.{length}
 use borrow.Author.Needs.{needs}
 use Rattle.reading.specs.Reads.{OfState}
 use Rattle.forward.proofs.Picks.{walk-ends, walk-row, walk-large, walk-on, name-sent, walk-starts, Walked}
-use Rattle.forward.proofs.Living.{of-place}
+use Rattle.reading.proofs.StateReads.{lives-place}
 use Rattle.forward.proofs.picking.pick.Statement.{statement}
 use Rattle.forward.proofs.picking.pick.Tie as tie
 
@@ -16,7 +17,7 @@ abbrev μ-loop : tie.MeasureT-loop
 μ-loop store p out₀ names i₀ out i = length names - i
 
 queue-requires : tie.Need-queue-requires Inv-loop μ-loop
-queue-requires c κs = search of-place
+queue-requires c κs = search lives-place
 
 loop-holds : tie.Need-loop-holds Inv-loop μ-loop
 loop-holds c = (omega arith, refl, walk-starts _ _ _)

@@ -1,11 +1,13 @@
+-- `taken_row` meets its contract.
 use borrow.Author.Needs.{needs}
 use Rattle.forward.proofs.Mailing.{taken-row-is, content-short}
-use Rattle.forward.proofs.Living.{control-short, of-place}
+use Rattle.reading.proofs.StateReads.{lives-place}
+use Rattle.forward.proofs.Living.{control-short}
 use Rattle.forward.proofs.picking.taken_row.Statement.{statement}
 use Rattle.forward.proofs.picking.taken_row.Tie as tie
 
 control-requires : tie.Need-control-requires
-control-requires c κs = search of-place
+control-requires c κs = search lives-place
 
 content-requires : tie.Need-content-requires
 content-requires c κs = search needs

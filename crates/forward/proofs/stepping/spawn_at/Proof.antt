@@ -1,3 +1,4 @@
+-- `spawn_at` meets its contract.
 use borrow.Author.Needs.{needs}
 use Rattle.forward.proofs.Spawning.{free-place, spawn-taken, spawn-beyond}
 use Rattle.forward.proofs.stepping.spawn_at.Statement.{statement}

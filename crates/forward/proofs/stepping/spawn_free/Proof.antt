@@ -1,3 +1,4 @@
+-- `spawn_free` meets its contract.
 use native.Mathlib.Omega.{arith}
 use borrow.Author.Needs.{needs}
 use Rattle.forward.proofs.Spawning.{child-part, spawn-does, child-large, child-nothing, spawn-ready, child-within, place-small}

@@ -1,3 +1,4 @@
+-- `spawn_live` meets its contract.
 use borrow.Author.Needs.{needs}
 use Rattle.forward.proofs.Steps.{spawn-check, spawn-own, spawn-receive, spawn-send, spawn-seq, spawn-stuck, spawn-finished, about-ready}
 use Rattle.forward.proofs.stepping.spawn_live.Statement.{statement}

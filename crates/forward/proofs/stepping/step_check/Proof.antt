@@ -1,3 +1,4 @@
+-- `step_check` meets its contract.
 use native.Mathlib.Omega.{arith}
 use borrow.Author.Needs.{needs}
 use Rattle.forward.proofs.Steps.{check-does, check-ready, about-lives, check-small}

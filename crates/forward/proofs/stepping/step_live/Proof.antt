@@ -1,3 +1,4 @@
+-- `step_live` meets its contract.
 use borrow.Author.Needs.{needs}
 use Rattle.forward.proofs.Steps.{step-at-spawn, step-stuck, step-finished, about-ready}
 use Rattle.forward.proofs.stepping.step_live.Statement.{statement}

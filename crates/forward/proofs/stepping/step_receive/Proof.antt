@@ -1,3 +1,4 @@
+-- `step_receive` meets its contract.
 use borrow.Author.Needs.{needs}
 use Rattle.forward.proofs.Steps.{receive-does, receive-large, receive-waits, receive-ready, about-lives}
 use Rattle.forward.proofs.stepping.step_receive.Statement.{statement}

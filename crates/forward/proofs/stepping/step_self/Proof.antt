@@ -1,3 +1,4 @@
+-- `step_self` meets its contract.
 use native.Mathlib.Omega.{arith}
 use borrow.Author.Needs.{needs}
 use Rattle.forward.proofs.Steps.{self-does, self-ready, about-lives, own-small}

@@ -1,3 +1,4 @@
+-- `step_send` meets its contract.
 use borrow.Author.Needs.{needs}
 use Rattle.lists.proofs.Tests.{not-false, not-true}
 use Rattle.forward.proofs.Steps.{send-does, send-ready, about-lives, send-stuck}

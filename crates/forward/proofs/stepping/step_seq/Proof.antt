@@ -1,3 +1,4 @@
+-- `step_seq` meets its contract.
 use borrow.Author.Needs.{needs}
 use Rattle.forward.proofs.Steps.{seq-does, seq-ready, about-lives}
 use Rattle.forward.proofs.stepping.step_seq.Statement.{statement}

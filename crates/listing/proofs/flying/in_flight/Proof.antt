@@ -1,7 +1,7 @@
 -- `in_flight` meets its contract.
 use mathlib.Core.Path.{refl}
 use native.Mathlib.Omega.{arith}
-use Rattle.listing.proofs.StateLaws.{place-small}
+use Rattle.reading.proofs.StateReads.{place-low}
 use Rattle.listing.proofs.FlightLaws.{not-sent, is-send, count-small, target-place, flies-unless-come}
 use borrow.Author.Needs.{needs}
 use Rattle.listing.proofs.flying.in_flight.Statement.{statement}
@@ -23,13 +23,13 @@ target-requires : tie.Need-target-requires
 target-requires c κs = (search needs, is-send _ _ _ _ (c .before .before .before .find-send .ensures) _ (c .before .i .given .1))
 
 cast-name : tie.Need-cast-name
-cast-name c = omega (arith, place-small _ (c .before .before .before .before .before .before .pre .0) (c .before .before .before .before .before .before .pre .1))
+cast-name c = omega (arith, place-low _ (c .before .before .before .before .before .before .pre .0) _ (c .before .before .before .before .before .before .pre .1))
 
 mul-name : tie.Need-mul-name
-mul-name c = omega (arith, place-small _ (c .before .before .before .before .before .before .pre .0) (c .before .before .before .before .before .before .pre .1))
+mul-name c = omega (arith, place-low _ (c .before .before .before .before .before .before .pre .0) _ (c .before .before .before .before .before .before .pre .1))
 
 add-name : tie.Need-add-name
-add-name c = omega (arith, place-small _ (c .before .before .before .before .before .before .pre .0) (c .before .before .before .before .before .before .pre .1), count-small _ _ _ _ (c .before .before .before .before .find-send .ensures) _ (c .before .before .i .given .1) (c .before .before .before .before .before .before .pre .0))
+add-name c = omega (arith, place-low _ (c .before .before .before .before .before .before .pre .0) _ (c .before .before .before .before .before .before .pre .1), count-small _ _ _ _ (c .before .before .before .before .find-send .ensures) _ (c .before .before .i .given .1) (c .before .before .before .before .before .before .pre .0))
 
 cast-has-come : tie.Need-cast-has-come
 cast-has-come c = search needs

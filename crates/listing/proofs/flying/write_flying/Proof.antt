@@ -2,7 +2,7 @@
 use mathlib.Core.Path.{refl}
 use native.Mathlib.Omega.{arith}
 use Rattle.lists.proofs.Tests.{not-true, not-false}
-use Rattle.listing.proofs.StateLaws.{place-small}
+use Rattle.reading.proofs.StateReads.{place-low}
 use Rattle.listing.proofs.FlightLaws.{name-not, name-so}
 use borrow.Author.Needs.{needs}
 use Rattle.listing.proofs.flying.write_flying.Statement.{statement}
@@ -21,7 +21,7 @@ write-gap-requires : tie.Need-write-gap-requires
 write-gap-requires c κs = search needs
 
 cast-write-name : tie.Need-cast-write-name
-cast-write-name c = omega (arith, place-small _ (c .before .before .before .before .before .before .before .before .before .pre .0) (c .before .before .before .before .before .before .before .before .before .pre .1))
+cast-write-name c = omega (arith, place-low _ (c .before .before .before .before .before .before .before .before .before .pre .0) _ (c .before .before .before .before .before .before .before .before .before .pre .1))
 
 write-name-requires : tie.Need-write-name-requires
 write-name-requires c κs = search needs

@@ -6,7 +6,7 @@ use native.Mathlib.Omega.{arith}
 use lib.ListN.{length}
 use Rattle.reading.specs.Reads.{OfState}
 use Rattle.listing.specs.Listed.{Followed, flyingTexts}
-use Rattle.listing.proofs.StateLaws.{is-place}
+use Rattle.reading.proofs.FlightReads.{end-place}
 use Rattle.listing.proofs.FlightLaws.{senders-none, senders-more, senders-all}
 use Rattle.listing.proofs.flying.write_senders.Statement.{statement}
 use Rattle.listing.proofs.flying.write_senders.Tie as tie
@@ -27,7 +27,7 @@ loop-holds : tie.Need-loop-holds Inv-loop μ-loop
 loop-holds c = (search needs, search needs, senders-none _ _ _ _ (c .past .ensures) (search needs))
 
 write-sender-requires : tie.Need-write-sender-requires Inv-loop μ-loop
-write-sender-requires c κs = (search needs, is-place _ _ _ (c .before .before .before .before .places .ensures) (search needs))
+write-sender-requires c κs = (search needs, end-place _ _ _ (c .before .before .before .before .places .ensures) (search needs))
 
 add-s : tie.Need-add-s Inv-loop μ-loop
 add-s c = search needs

@@ -8,7 +8,7 @@ use lib.ListN.{length}
 use Rattle.lists.specs.Lists.{keep, upTo}
 use Rattle.rules.specs.State.{inPool}
 use Rattle.reading.specs.Reads.{OfState}
-use Rattle.listing.proofs.StateLaws.{places-few}
+use Rattle.reading.proofs.StateReads.{places-few}
 use Rattle.listing.proofs.ProcessLaws.{counted-none, counted-more, counted-same, counted-all}
 use Rattle.listing.proofs.processes.pool_count.Statement.{statement}
 use Rattle.listing.proofs.processes.pool_count.Tie as tie
@@ -23,10 +23,10 @@ places-requires : tie.Need-places-requires Inv-loop μ-loop
 places-requires c κs = search needs
 
 cast-end : tie.Need-cast-end Inv-loop μ-loop
-cast-end c = omega (arith, places-few _ (c .before .before .pre) (c .places .ensures))
+cast-end c = omega (arith, places-few _ (c .before .before .pre) _ (c .places .ensures))
 
 loop-holds : tie.Need-loop-holds Inv-loop μ-loop
-loop-holds c = (search needs, search needs, places-few _ (c .before .before .pre) (c .places .ensures), counted-none _)
+loop-holds c = (search needs, search needs, places-few _ (c .before .before .pre) _ (c .places .ensures), counted-none _)
 
 in-pool-requires : tie.Need-in-pool-requires Inv-loop μ-loop
 in-pool-requires c κs = search needs

@@ -1,14 +1,14 @@
 -- `write_place` meets its contract.
 use Rattle.lists.proofs.Tests.{not-true, not-false}
 use native.Mathlib.Omega.{arith}
-use Rattle.listing.proofs.StateLaws.{place-small, entries-few}
+use Rattle.reading.proofs.StateReads.{place-low, entries-few}
 use Rattle.listing.proofs.ProcessLaws.{no-lines, five-lines}
 use borrow.Author.Needs.{needs}
 use Rattle.listing.proofs.processes.write_place.Statement.{statement}
 use Rattle.listing.proofs.processes.write_place.Tie as tie
 
 cast-in-pool : tie.Need-cast-in-pool
-cast-in-pool c = omega (arith, place-small _ (c .before .before .pre .0) (c .before .before .pre .1))
+cast-in-pool c = omega (arith, place-low _ (c .before .before .pre .0) _ (c .before .before .pre .1))
 
 in-pool-requires : tie.Need-in-pool-requires
 in-pool-requires c κs = search needs
@@ -23,13 +23,13 @@ entry-count-requires : tie.Need-entry-count-requires
 entry-count-requires c κs = search needs
 
 cast-entries : tie.Need-cast-entries
-cast-entries c = omega (arith, entries-few _ _ (c .before .before .before .before .before .pre .0) (c .entry-count .ensures))
+cast-entries c = omega (arith, entries-few _ (c .before .before .before .before .before .pre .0) _ _ (c .entry-count .ensures))
 
 newest-requires : tie.Need-newest-requires
 newest-requires c κs = search needs
 
 cast-write-process : tie.Need-cast-write-process
-cast-write-process c = omega (arith, place-small _ (c .before .before .before .before .before .before .before .pre .0) (c .before .before .before .before .before .before .before .pre .1))
+cast-write-process c = omega (arith, place-low _ (c .before .before .before .before .before .before .before .pre .0) _ (c .before .before .before .before .before .before .before .pre .1))
 
 queue-requires : tie.Need-queue-requires
 queue-requires c κs = search needs

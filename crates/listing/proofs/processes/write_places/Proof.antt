@@ -7,7 +7,7 @@ use lib.ListN.{length}
 use Rattle.text.specs.Written.{Wrote}
 use Rattle.reading.specs.Reads.{OfState}
 use Rattle.listing.specs.Listed.{placesText}
-use Rattle.listing.proofs.StateLaws.{is-place}
+use Rattle.reading.proofs.FlightReads.{end-place}
 use Rattle.listing.proofs.ProcessLaws.{places-none, places-more, places-all}
 use Rattle.listing.proofs.processes.write_places.Statement.{statement}
 use Rattle.listing.proofs.processes.write_places.Tie as tie
@@ -28,7 +28,7 @@ loop-holds : tie.Need-loop-holds Inv-loop μ-loop
 loop-holds c = (search needs, search needs, places-none _ _ _ _ (search needs) (search needs))
 
 write-place-requires : tie.Need-write-place-requires Inv-loop μ-loop
-write-place-requires c κs = (search needs, is-place _ _ _ (c .before .before .before .before .places .ensures) (search needs))
+write-place-requires c κs = (search needs, end-place _ _ _ (c .before .before .before .before .places .ensures) (search needs))
 
 add-p : tie.Need-add-p Inv-loop μ-loop
 add-p c = search needs

@@ -1,3 +1,4 @@
+-- `before` meets its contract.
 use Rattle.reading.proofs.StateReads.{entry-is-place, entry-index, entry-low, control-fits, before-out}
 use native.Mathlib.Omega.{arith}
 use Rattle.reading.proofs.entries.before.Statement.{statement}

@@ -1,3 +1,4 @@
+-- `kind` meets its contract.
 use Rattle.reading.proofs.StateReads.{entry-is-place, entry-index, entry-low, head-of, kind-out}
 use native.Mathlib.Omega.{arith}
 use Rattle.reading.proofs.entries.kind.Statement.{statement}

@@ -1,3 +1,4 @@
+-- `number` meets its contract.
 use Rattle.reading.proofs.StateReads.{entry-is-place, entry-index, entry-low, head-of, number-out}
 use native.Mathlib.Omega.{arith}
 use Rattle.reading.proofs.entries.number.Statement.{statement}

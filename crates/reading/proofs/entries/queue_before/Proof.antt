@@ -1,3 +1,4 @@
+-- `queue_before` meets its contract.
 use Rattle.reading.proofs.StateReads.{entry-is-place, entry-index, entry-low, names-fit, queue-before-out}
 use native.Mathlib.Omega.{arith}
 use borrow.Author.Needs.{needs}

@@ -1,3 +1,4 @@
+-- `among` meets its contract.
 use Rattle.lists.specs.Lists.{member}
 use mathlib.Core.Path.{_≡_, refl}
 use lib.ListN.{length, drop}

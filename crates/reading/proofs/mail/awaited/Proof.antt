@@ -1,3 +1,4 @@
+-- `awaited` meets its contract.
 use Rattle.reading.specs.Reads.{OfState}
 use Rattle.lists.specs.Lists.{any, upTo}
 use mathlib.Core.Bool.{false}
@@ -5,7 +6,8 @@ use mathlib.Core.Path.{_≡_}
 use Prim.Native.Nat.{_≤_, _-_}
 use borrow.Author.Needs.{needs}
 use native.Mathlib.Omega.{arith}
-use Rattle.reading.proofs.FlightReads.{fromPlace, place-low, end-place, calm-start, calm-more, awaited-here, awaited-none}
+use Rattle.reading.proofs.FlightReads.{fromPlace, end-place, calm-start, calm-more, awaited-here, awaited-none}
+use Rattle.reading.proofs.StateReads.{place-low}
 use Rattle.reading.proofs.mail.awaited.Statement.{statement}
 use Rattle.reading.proofs.mail.awaited.Tie as tie
 
@@ -22,7 +24,7 @@ loop-holds : tie.Need-loop-holds Inv-loop μ-loop
 loop-holds c = (omega arith, calm-start _ _)
 
 cast-awaited-from : tie.Need-cast-awaited-from Inv-loop μ-loop
-cast-awaited-from c = omega (arith, place-low _ _ (c .before .before .before .before .pre .0) (c .before .before .before .before .pre .1))
+cast-awaited-from c = omega (arith, place-low _ (c .before .before .before .before .pre .0) _ (c .before .before .before .before .pre .1))
 
 awaited-from-requires : tie.Need-awaited-from-requires Inv-loop μ-loop
 awaited-from-requires c κs = (c .before .before .before .before .pre .0, end-place _ _ _ (c .before .before .places .ensures) (c .loop-test .taken), c .before .before .before .before .pre .1)

@@ -1,7 +1,9 @@
+-- `awaited_from` meets its contract.
 use Prim.Native.Nat.{_≤_, _-_}
 use borrow.Author.Needs.{needs}
 use native.Mathlib.Omega.{arith}
-use Rattle.reading.proofs.FlightReads.{NameAt, Quiet, quiet-start, name-start, quiet-more, flies-found, name-more, name-low, place-low, quiet-all}
+use Rattle.reading.proofs.FlightReads.{NameAt, Quiet, quiet-start, name-start, quiet-more, flies-found, name-more, name-low, quiet-all}
+use Rattle.reading.proofs.StateReads.{place-low}
 use Rattle.reading.proofs.MailReads.{end-entry, here-low}
 use Rattle.reading.proofs.mail.awaited_from.Statement.{statement}
 use Rattle.reading.proofs.mail.awaited_from.Tie as tie
@@ -16,10 +18,10 @@ entry-count-requires : tie.Need-entry-count-requires Inv-loop μ-loop
 entry-count-requires c κs = (c .before .pre .0, c .before .pre .1)
 
 cast-name : tie.Need-cast-name Inv-loop μ-loop
-cast-name c = omega (arith, place-low _ _ (c .before .before .pre .0) (c .before .before .pre .1))
+cast-name c = omega (arith, place-low _ (c .before .before .pre .0) _ (c .before .before .pre .1))
 
 mul-name : tie.Need-mul-name Inv-loop μ-loop
-mul-name c = omega (arith, place-low _ _ (c .before .before .pre .0) (c .before .before .pre .1))
+mul-name c = omega (arith, place-low _ (c .before .before .pre .0) _ (c .before .before .pre .1))
 
 loop-holds : tie.Need-loop-holds Inv-loop μ-loop
 loop-holds c = (omega arith, name-start _ _, quiet-start _ _ _)

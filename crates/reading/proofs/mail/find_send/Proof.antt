@@ -1,3 +1,4 @@
+-- `find_send` meets its contract.
 use Rattle.rules.specs.Flight.{sends}
 use Rattle.reading.specs.Reads.{OfState, oldest}
 use Rattle.rules.specs.State.{historyAt}

@@ -1,3 +1,4 @@
+-- `flies_to` meets its contract.
 use Rattle.reading.proofs.FlightReads.{flies-none, flies-other, flies-this}
 use Rattle.reading.proofs.MailReads.{here-send}
 use borrow.Author.Needs.{needs}

@@ -1,3 +1,4 @@
+-- `has_come` meets its contract.
 use Rattle.reading.proofs.MailReads.{come-queue, come-taken}
 use borrow.Author.Needs.{needs}
 use Rattle.reading.proofs.mail.has_come.Statement.{statement}

@@ -1,3 +1,4 @@
+-- `part_of` meets its contract.
 use Rattle.reading.proofs.SendReads.{part-none, part-past, part-rest}
 use borrow.Author.Needs.{needs}
 use Rattle.reading.proofs.mail.part_of.Statement.{statement}

@@ -1,3 +1,4 @@
+-- `received` meets its contract.
 use Rattle.lists.specs.Lists.{any}
 use Rattle.rules.specs.Flight.{taken}
 use Rattle.reading.specs.Reads.{OfState, oldest}

@@ -1,3 +1,4 @@
+-- `send_at` meets its contract.
 use Rattle.reading.proofs.MailReads.{send-one, send-other}
 use borrow.Author.Needs.{needs}
 use Rattle.reading.proofs.mail.send_at.Statement.{statement}

@@ -1,3 +1,4 @@
+-- `sends_before` meets its contract.
 use Rattle.reading.specs.Reads.{OfState, IsEntry}
 use Prim.Native.Nat.{_≤_, _-_}
 use borrow.Author.Needs.{needs}

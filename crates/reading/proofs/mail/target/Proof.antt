@@ -1,3 +1,4 @@
+-- `target` meets its contract.
 use Rattle.reading.proofs.SendReads.{send-entry, before-short, doing-send, target-out, target-else}
 use borrow.Author.Needs.{needs}
 use Rattle.reading.proofs.mail.target.Statement.{statement}

@@ -1,3 +1,4 @@
+-- `took` meets its contract.
 use mathlib.Core.List.{[]}
 use Rattle.reading.proofs.MailReads.{took-not, took-in, took-out}
 use borrow.Author.Needs.{needs}

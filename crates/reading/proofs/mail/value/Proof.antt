@@ -1,3 +1,4 @@
+-- `value` meets its contract.
 use Rattle.reading.proofs.SendReads.{send-entry, before-short, value-out}
 use borrow.Author.Needs.{needs}
 use Rattle.reading.proofs.mail.value.Statement.{statement}

@@ -1,3 +1,4 @@
+-- `slot` meets its contract.
 use native.Mathlib.Omega.{arith}
 use Rattle.reading.proofs.Holding.{head-in, good-read, place-read, index-read, slot-in, slot-low, slot-is}
 use borrow.Author.Needs.{needs}

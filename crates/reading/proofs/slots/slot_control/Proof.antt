@@ -1,3 +1,4 @@
+-- `slot_control` meets its contract.
 use Prim.Native.Nat.{ℕ, _+_, _-_}
 use mathlib.Core.Path.{_≡_, ap}
 use native.Mathlib.Omega.{arith}

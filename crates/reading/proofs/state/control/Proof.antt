@@ -1,3 +1,4 @@
+-- `control` meets its contract.
 use Rattle.reading.proofs.StateReads.{first-slot, control-fits, control-out}
 use Rattle.reading.proofs.state.control.Statement.{statement}
 use Rattle.reading.proofs.state.control.Tie as tie

@@ -1,3 +1,4 @@
+-- `entry_count` meets its contract.
 use borrow.Author.Needs.{needs}
 use Rattle.reading.proofs.StateReads.{head-of, count-none, count-free, count-more, count-full, count-index}
 use Rattle.reading.specs.Reads.{OfState}

@@ -1,3 +1,4 @@
+-- `in_pool` meets its contract.
 use Rattle.reading.proofs.Holding.{head-in}
 use Rattle.reading.proofs.StateReads.{first-slot, no-place, is-place, head-of, live-out}
 use native.Mathlib.Omega.{arith}

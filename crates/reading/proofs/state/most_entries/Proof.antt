@@ -1,3 +1,4 @@
+-- `most_entries` meets its contract.
 use Rattle.reading.proofs.Holding.{head-in}
 use Rattle.reading.proofs.StateReads.{entries-out}
 use native.Mathlib.Omega.{arith}

@@ -1,3 +1,4 @@
+-- `most_words` meets its contract.
 use Rattle.reading.proofs.Holding.{head-in}
 use Rattle.reading.proofs.StateReads.{words-out}
 use native.Mathlib.Omega.{arith}

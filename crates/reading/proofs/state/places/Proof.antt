@@ -1,3 +1,4 @@
+-- `places` meets its contract.
 use Rattle.reading.proofs.Holding.{head-in}
 use Rattle.reading.proofs.StateReads.{places-out}
 use native.Mathlib.Omega.{arith}

@@ -1,3 +1,4 @@
+-- `program` meets its contract.
 use Rattle.reading.proofs.Holding.{head-in}
 use Rattle.reading.proofs.StateReads.{module-in, module-out}
 use native.Mathlib.Omega.{arith}

@@ -1,3 +1,4 @@
+-- `queue` meets its contract.
 use Rattle.reading.proofs.StateReads.{first-slot, names-fit, queue-out}
 use borrow.Author.Needs.{needs}
 use Rattle.reading.proofs.state.queue.Statement.{statement}

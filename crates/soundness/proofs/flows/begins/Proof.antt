@@ -1,14 +1,12 @@
+-- `begins` meets its contract.
 use Prim.Native.Nat.{_≤_, _-_}
-use mathlib.Core.Path.{_≡_, refl, sym, _∙_}
+use mathlib.Core.Path.{refl}
 use native.Mathlib.Omega.{arith}
-use lib.ListN.{length, drop}
+use lib.ListN.{length}
 use borrow.Author.Needs.{needs}
-use Rattle.soundness.specs.SoundTests.{begins}
 use Rattle.soundness.proofs.FlowTest.{Comparing, compare-short, compare-next, compare-breaks, compare-ends}
 use Rattle.soundness.proofs.flows.begins.Statement.{statement}
 use Rattle.soundness.proofs.flows.begins.Tie as tie
-use Rattle.soundness.proofs.flows.begins.Reads as reads
-use Rattle.soundness.proofs.flows.begins.Lts as lts
 
 abbrev Inv-loop : tie.InvT-loop
 Inv-loop front whole i₀ i = (i ≤ length front) × (length front ≤ length whole) × Comparing front whole i
@@ -16,47 +14,36 @@ Inv-loop front whole i₀ i = (i ≤ length front) × (length front ≤ length w
 abbrev μ-loop : tie.MeasureT-loop
 μ-loop front whole i₀ i = length front - i
 
--- src/flows.rt:10:9
 returns : tie.Need-returns Inv-loop μ-loop
 returns c = search compare-short
 
--- src/flows.rt:13:5
 loop-holds : tie.Need-loop-holds Inv-loop μ-loop
 loop-holds c = (omega arith, omega arith, refl)
 
--- src/flows.rt:14:12
 mul-if2 : tie.Need-mul-if2 Inv-loop μ-loop
 mul-if2 c = search needs
 
--- src/flows.rt:14:12
 shared-slice-read-if2 : tie.Need-shared-slice-read-if2 Inv-loop μ-loop
 shared-slice-read-if2 c = search needs
 
--- src/flows.rt:14:24
 mul-if2-2 : tie.Need-mul-if2-2 Inv-loop μ-loop
 mul-if2-2 c = search needs
 
--- src/flows.rt:14:24
 shared-slice-read-if2-2 : tie.Need-shared-slice-read-if2-2 Inv-loop μ-loop
 shared-slice-read-if2-2 c = search needs
 
--- src/flows.rt:15:13
 returns-2 : tie.Need-returns-2 Inv-loop μ-loop
 returns-2 c = search compare-breaks
 
--- src/flows.rt:17:9
 add-i : tie.Need-add-i Inv-loop μ-loop
 add-i c = search needs
 
--- src/flows.rt:13:5
 loop-less : tie.Need-loop-less Inv-loop μ-loop
 loop-less c = search needs
 
--- src/flows.rt:13:5
 loop-again : tie.Need-loop-again Inv-loop μ-loop
 loop-again c = (omega arith, search needs, search compare-next)
 
--- src/flows.rt:6:1
 returns-3 : tie.Need-returns-3 Inv-loop μ-loop
 returns-3 c = search compare-ends
 

@@ -1,8 +1,8 @@
-use Prim.Native.Nat.{ℕ, _+_, _*_, _≤_, _-_}
-use mathlib.Core.Path.{_≡_, refl, sym, _∙_, ap, subst}
-use mathlib.Core.List.{List}
+-- `flows` meets its contract.
+use Prim.Native.Nat.{_*_, _≤_}
+use mathlib.Core.Path.{_≡_, refl, sym}
 use native.Mathlib.Omega.{arith}
-use lib.ListN.{length, take, drop, getD}
+use lib.ListN.{length}
 use lib.Seq.{length-take-le}
 use borrow.Author.Needs.{needs}
 use Rattle.lists.specs.Lists.{All}
@@ -12,9 +12,6 @@ use Rattle.soundness.proofs.SoundTestWalk.{first-in, behind-short, othe
 use Rattle.soundness.proofs.SoundTestRun.{tests-yes, tests-no, tests-done}
 use Rattle.soundness.proofs.flows.flows.Statement.{statement}
 use Rattle.soundness.proofs.flows.flows.Tie as tie
-use Rattle.soundness.proofs.flows.flows.Reads as reads
-use Rattle.soundness.proofs.flows.flows.Lts as lts
-use Rattle.soundness.proofs.flows.place_flows.Reads as place-flows-reads
 
 abbrev Inv-loop : tie.InvT-loop
 Inv-loop blocks places len count size words t₀ left₀ t left =
@@ -27,15 +24,12 @@ abbrev μ-loop : tie.MeasureT-loop
 fits : (c : tie.In-loop Inv-loop μ-loop) → c .before .before .before .args .len ≤ length (c .before .loop .t .now)
 fits c = first-in (c .before .loop .left) (c .before .before .before .args .len) (length (c .before .loop .t .now)) (c .before .loop .inv .0) (c .loop-test .taken)
 
--- src/flows.rt:76:5
 loop-holds : tie.Need-loop-holds Inv-loop μ-loop
 loop-holds c = (c .before .pre .0, omega arith, c .before .pre .1, refl)
 
--- src/flows.rt:77:24
 slice-aggregate-place-flows : tie.Need-slice-aggregate-place-flows Inv-loop μ-loop
 slice-aggregate-place-flows c = sym (length-take-le _ _ (fits (c .before)))
 
--- src/flows.rt:77:12
 place-flows-requires : tie.Need-place-flows-requires Inv-loop μ-loop
 place-flows-requires c κs =
     let a = c .before .before .before .before .args in
@@ -43,31 +37,24 @@ place-flows-requires c κs =
     let x = each-first (Block (a .words) (a .size) (a .count)) (l .left) (a .len) (l .t .now) (l .inv .2) (c .before .loop-test .taken) in
     (x .present-fits, x .first-fits, x .slots)
 
--- src/flows.rt:78:17
 mul-t : tie.Need-mul-t Inv-loop μ-loop
 mul-t c = omega (arith, fits (c .before .before .before))
 
--- src/flows.rt:78:17
 sub-t : tie.Need-sub-t Inv-loop μ-loop
 sub-t c = omega (arith, fits (c .before .before .before))
 
--- src/flows.rt:78:17
 part-t-start : tie.Need-part-t-start Inv-loop μ-loop
 part-t-start c = omega (arith, fits (c .before .before .before))
 
--- src/flows.rt:78:17
 part-t-end : tie.Need-part-t-end Inv-loop μ-loop
 part-t-end c = omega (arith, fits (c .before .before .before))
 
--- src/flows.rt:79:13
 sub-left : tie.Need-sub-left Inv-loop μ-loop
 sub-left c = search needs
 
--- src/flows.rt:76:5
 loop-less : tie.Need-loop-less Inv-loop μ-loop
 loop-less c = search needs
 
--- src/flows.rt:76:5
 loop-again : tie.Need-loop-again Inv-loop μ-loop
 unfolding placeFlows
 loop-again c =
@@ -76,7 +63,6 @@ loop-again c =
     let some = c .before .before .before .before .loop-test .taken in
     (others-lent (l .left) (a .len) (l .t .now) (l .inv .0) some, (let s = behind-short (a .len) (l .t .now) in omega (arith, l .inv .1)), each-next (Block (a .words) (a .size) (a .count)) (l .left) (a .len) (l .t .now) (l .inv .2) some, tests-yes (placeFlows (a .words) (a .size) (a .count)) _ (a .len) (l .left) (l .t .now) (l .inv .3) _ some (c .before .before .place-flows .ensures) (c .before .if1 .taken))
 
--- src/flows.rt:81:13
 returns : tie.Need-returns Inv-loop μ-loop
 unfolding placeFlows
 returns c =
@@ -84,7 +70,6 @@ returns c =
     let l = c .before .before .before .before .loop in
     tests-no (placeFlows (a .words) (a .size) (a .count)) _ (a .len) (l .left) (l .t .now) (l .inv .3) _ (c .before .before .before .loop-test .taken) (c .before .place-flows .ensures) (c .if1 .left)
 
--- src/flows.rt:70:1
 returns-2 : tie.Need-returns-2 Inv-loop μ-loop
 returns-2 c =
     let a = c .before .before .before .args in

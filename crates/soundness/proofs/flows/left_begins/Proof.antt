@@ -1,3 +1,4 @@
+-- `left_begins` meets its contract.
 use borrow.Author.Needs.{needs}
 use mathlib.Core.Path.{sym}
 use native.Mathlib.Omega.{arith}
@@ -5,71 +6,52 @@ use lib.Seq.{length-take-le}
 use Rattle.soundness.proofs.FlowTest.{left-outside, left-within, left-breaks, left-rest}
 use Rattle.soundness.proofs.flows.left_begins.Statement.{statement}
 use Rattle.soundness.proofs.flows.left_begins.Tie as tie
-use Rattle.soundness.proofs.flows.left_begins.Reads as reads
-use Rattle.soundness.proofs.flows.left_begins.Lts as lts
-use Rattle.soundness.proofs.flows.begins.Reads as begins-reads
 
--- src/flows.rt:33:9
 begins-requires : tie.Need-begins-requires
 begins-requires c κs = search needs
 
--- src/flows.rt:33:9
 returns : tie.Need-returns
 returns c = search left-outside
 
--- src/flows.rt:35:15
 slice-aggregate-begins : tie.Need-slice-aggregate-begins
 slice-aggregate-begins c = sym (length-take-le _ _ (omega arith))
 
--- src/flows.rt:35:8
 begins-requires-2 : tie.Need-begins-requires-2
 begins-requires-2 c κs = search needs
 
--- src/flows.rt:36:24
 add-begins : tie.Need-add-begins
 add-begins c = search needs
 
--- src/flows.rt:36:16
 mul-begins : tie.Need-mul-begins
 mul-begins c = search needs
 
--- src/flows.rt:36:16
 sub-begins : tie.Need-sub-begins
 sub-begins c = search needs
 
--- src/flows.rt:36:16
 part-begins-start : tie.Need-part-begins-start
 part-begins-start c = search needs
 
--- src/flows.rt:36:16
 part-begins-end : tie.Need-part-begins-end
 part-begins-end c = search needs
 
--- src/flows.rt:36:38
 mul-begins-2 : tie.Need-mul-begins-2
 mul-begins-2 c = search needs
 
--- src/flows.rt:36:38
 sub-begins-2 : tie.Need-sub-begins-2
 sub-begins-2 c = search left-within
 
--- src/flows.rt:36:38
 part-begins-start-2 : tie.Need-part-begins-start-2
 part-begins-start-2 c = search left-within
 
--- src/flows.rt:36:38
 part-begins-end-2 : tie.Need-part-begins-end-2
 part-begins-end-2 c = search needs
 
--- src/flows.rt:36:9
 begins-requires-3 : tie.Need-begins-requires-3
 begins-requires-3 c κs = search needs
 
--- src/flows.rt:29:1
 returns-2 : tie.Need-returns-2
 returns-2 c = search left-rest
 
--- src/flows.rt:29:1
 returns-3 : tie.Need-returns-3
 returns-3 c = search left-breaks
 

@@ -1,5 +1,6 @@
+-- `place_flows` meets its contract.
 use Prim.Native.Nat.{ℕ, _+_, _≤_, _-_}
-use mathlib.Core.Path.{_≡_, refl, sym, _∙_, ap}
+use mathlib.Core.Path.{_≡_, sym, _∙_, ap}
 use mathlib.Core.Logic.{⊎-elim}
 use mathlib.Core.List.{List, []}
 use native.Mathlib.Omega.{arith}
@@ -12,9 +13,6 @@ use Rattle.soundness.proofs.FlowTest.{going-rec, going-other, going-bre
 use Rattle.soundness.proofs.SoundTestWalk.{behind, behind-short, slots-behind, slot-in, names-in, slots-next}
 use Rattle.soundness.proofs.flows.place_flows.Statement.{statement}
 use Rattle.soundness.proofs.flows.place_flows.Tie as tie
-use Rattle.soundness.proofs.flows.place_flows.Reads as reads
-use Rattle.soundness.proofs.flows.place_flows.Lts as lts
-use Rattle.soundness.proofs.flows.left_begins.Reads as left-begins-reads
 
 abbrev Inv-loop : tie.InvT-loop
 Inv-loop block count size words from before₀ taken₀ t₀ left₀ before taken t left =
@@ -32,117 +30,89 @@ facts c =
     let a = c .before .before .before .before .before .args in
     (slot-in (a .words) (a .size) (l .left) (l .t .now) (l .inv .0) (c .loop-test .taken), names-in (a .words) (a .size) (l .left) (l .t .now) (l .inv .0) (c .loop-test .taken))
 
--- src/flows.rt:47:16
 add-from : tie.Need-add-from Inv-loop μ-loop
 add-from c = search needs
 
--- src/flows.rt:48:22
 sub-before : tie.Need-sub-before Inv-loop μ-loop
 sub-before c = search needs
 
--- src/flows.rt:48:22
 part-before-start : tie.Need-part-before-start Inv-loop μ-loop
 part-before-start c = search needs
 
--- src/flows.rt:48:22
 part-before-end : tie.Need-part-before-end Inv-loop μ-loop
 part-before-end c = search needs
 
--- src/flows.rt:50:17
 mul-t : tie.Need-mul-t Inv-loop μ-loop
 mul-t c = search needs
 
--- src/flows.rt:50:17
 sub-t : tie.Need-sub-t Inv-loop μ-loop
 sub-t c = search needs
 
--- src/flows.rt:50:17
 part-t-start : tie.Need-part-t-start Inv-loop μ-loop
 part-t-start c = search needs
 
--- src/flows.rt:50:17
 part-t-end : tie.Need-part-t-end Inv-loop μ-loop
 part-t-end c = search needs
 
--- src/flows.rt:52:5
 loop-holds : tie.Need-loop-holds Inv-loop μ-loop
 loop-holds c =
     let a = c .before .before .before .args in
     (slots-behind (a .words) (a .size) (a .count) (a .block .now) (c .before .before .before .pre .2), behind-short (a .size) (a .block .now), ap (λ (r : List ℕ). flowsOn (a .words) 0 [] (chop (a .count) (a .size) r) (namesIn (a .words) (a .block .now))) (sym (behind (a .size) (a .block .now))))
 
--- src/flows.rt:53:12
 shared-slice-read-if1 : tie.Need-shared-slice-read-if1 Inv-loop μ-loop
 shared-slice-read-if1 c = let f = facts (c .before) in omega (arith, f .0, f .1)
 
--- src/flows.rt:54:41
 shared-slice-read-names : tie.Need-shared-slice-read-names Inv-loop μ-loop
 shared-slice-read-names c = let f = facts (c .before .before .before) in omega (arith, f .0, f .1)
 
--- src/flows.rt:54:41
 cast-names : tie.Need-cast-names Inv-loop μ-loop
 cast-names c = let f = facts (c .before .before .before) in omega (arith, f .0, f .1)
 
--- src/flows.rt:54:34
 add-names : tie.Need-add-names Inv-loop μ-loop
 add-names c = let f = facts (c .before .before .before) in omega (arith, f .0, f .1)
 
--- src/flows.rt:54:25
 mul-names : tie.Need-mul-names Inv-loop μ-loop
 mul-names c = let f = facts (c .before .before .before) in omega (arith, f .0, f .1)
 
--- src/flows.rt:54:25
 sub-names : tie.Need-sub-names Inv-loop μ-loop
 sub-names c = let f = facts (c .before .before .before) in omega (arith, f .0, f .1)
 
--- src/flows.rt:54:25
 part-names-start : tie.Need-part-names-start Inv-loop μ-loop
 part-names-start c = let f = facts (c .before .before .before) in omega (arith, f .0, f .1)
 
--- src/flows.rt:54:25
 part-names-end : tie.Need-part-names-end Inv-loop μ-loop
 part-names-end c = let f = facts (c .before .before .before) in omega (arith, f .0, f .1)
 
--- src/flows.rt:55:16
 left-begins-requires : tie.Need-left-begins-requires Inv-loop μ-loop
 left-begins-requires c κs = search needs
 
--- src/flows.rt:57:25
 shared-slice-read-taken : tie.Need-shared-slice-read-taken Inv-loop μ-loop
 shared-slice-read-taken c = let f = facts (c .before .before .before .before .before .before .before) in omega (arith, f .0, f .1)
 
--- src/flows.rt:57:25
 cast-taken : tie.Need-cast-taken Inv-loop μ-loop
 cast-taken c = omega (arith, c .shared-slice-known4 .given 2)
 
--- src/flows.rt:59:17
 returns : tie.Need-returns Inv-loop μ-loop
 returns c = search going-breaks
 
--- src/flows.rt:62:13
 mul-t-2 : tie.Need-mul-t-2 Inv-loop μ-loop
 mul-t-2 c = let f = facts (c .before .before) in omega (arith, f .0, f .1)
 
--- src/flows.rt:62:13
 sub-t-2 : tie.Need-sub-t-2 Inv-loop μ-loop
 sub-t-2 c = let f = facts (c .before .before) in omega (arith, f .0, f .1)
 
--- src/flows.rt:62:13
 part-t-start-2 : tie.Need-part-t-start-2 Inv-loop μ-loop
 part-t-start-2 c = let f = facts (c .before .before) in omega (arith, f .0, f .1)
 
--- src/flows.rt:62:13
 part-t-end-2 : tie.Need-part-t-end-2 Inv-loop μ-loop
 part-t-end-2 c = let f = facts (c .before .before) in omega (arith, f .0, f .1)
 
--- src/flows.rt:63:9
 sub-left : tie.Need-sub-left Inv-loop μ-loop
 sub-left c = search needs
 
--- src/flows.rt:52:5
 loop-less : tie.Need-loop-less Inv-loop μ-loop
 loop-less c = search needs
 
--- src/flows.rt:52:5
 loop-again : tie.Need-loop-again Inv-loop μ-loop
 loop-again c =
     let a = c .before .before .before .before .before .before .before .before .args in
@@ -158,39 +128,30 @@ loop-again c =
           (c .before .if1 .came),
     )
 
--- src/flows.rt:65:52
 shared-slice-read-left-begins : tie.Need-shared-slice-read-left-begins Inv-loop μ-loop
 shared-slice-read-left-begins c = search needs
 
--- src/flows.rt:65:52
 cast-left-begins : tie.Need-cast-left-begins Inv-loop μ-loop
 cast-left-begins c = omega (arith, c .shared-slice-known5 .given 4)
 
--- src/flows.rt:65:45
 add-left-begins : tie.Need-add-left-begins Inv-loop μ-loop
 add-left-begins c = search needs
 
--- src/flows.rt:65:32
 mul-left-begins : tie.Need-mul-left-begins Inv-loop μ-loop
 mul-left-begins c = search needs
 
--- src/flows.rt:65:32
 sub-left-begins : tie.Need-sub-left-begins Inv-loop μ-loop
 sub-left-begins c = search needs
 
--- src/flows.rt:65:32
 part-left-begins-start : tie.Need-part-left-begins-start Inv-loop μ-loop
 part-left-begins-start c = search needs
 
--- src/flows.rt:65:32
 part-left-begins-end : tie.Need-part-left-begins-end Inv-loop μ-loop
 part-left-begins-end c = search needs
 
--- src/flows.rt:65:5
 left-begins-requires-2 : tie.Need-left-begins-requires-2 Inv-loop μ-loop
 left-begins-requires-2 c κs = search needs
 
--- src/flows.rt:43:1
 returns-2 : tie.Need-returns-2 Inv-loop μ-loop
 returns-2 c =
     let a = c .before .before .before .before .before .before .before .before .args in

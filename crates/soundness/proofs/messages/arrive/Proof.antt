@@ -1,78 +1,56 @@
+-- `arrive` meets its contract.
 use borrow.Author.Needs.{needs}
 use native.Mathlib.Omega.{arith}
 use Prim.Native.Nat.{_+_, _*_, _/_, _%_, _<_}
 use lib.ListN.{length}
+use Rattle.store.specs.Layout.{nameBase}
 use Rattle.soundness.proofs.MessageTest.{name-in, arrive-sender, arrive-count, arrive-elsewhere, arrive-here}
 use Rattle.soundness.proofs.messages.arrive.Statement.{statement}
 use Rattle.soundness.proofs.messages.arrive.Tie as tie
-use Rattle.soundness.proofs.messages.arrive.Reads as reads
-use Rattle.soundness.proofs.messages.arrive.Lts as lts
 
--- src/messages.rt:19:18
+-- where the send is noted, if its sender is a place and its count that of an entry
+noted-in : (c : tie.Else2) → c .before .before .args .name / nameBase * c .before .before .args .entries + c .before .before .args .name % nameBase < length (c .before .before .args .targets .now)
+noted-in c = name-in _ _ _ _ _ (c .before .before .pre .0) (c .before .if1 .left) (c .if2 .left)
+
 cast-sender : tie.Need-cast-sender
 cast-sender c = search needs
 
--- src/messages.rt:20:17
 cast-count : tie.Need-cast-count
 cast-count c = search needs
 
--- src/messages.rt:22:9
 returns : tie.Need-returns
 returns c = search arrive-sender
 
--- src/messages.rt:25:9
 returns-2 : tie.Need-returns-2
 returns-2 c = search arrive-count
 
--- src/messages.rt:27:14
 mul-at : tie.Need-mul-at
-mul-at c =
-    let s = c .before .before in
-    let h : s .args .name / 65536 * s .args .entries + s .args .name % 65536 < length (s .args .targets .now) = search name-in in
-    omega arith
+mul-at c = omega (arith, noted-in c)
 
--- src/messages.rt:27:14
 add-at : tie.Need-add-at
-add-at c =
-    let s = c .before .before in
-    let h : s .args .name / 65536 * s .args .entries + s .args .name % 65536 < length (s .args .targets .now) = search name-in in
-    omega arith
+add-at c = omega (arith, noted-in c)
 
--- src/messages.rt:28:8
 mul-if3 : tie.Need-mul-if3
-mul-if3 c =
-    let s = c .before .before in
-    let h : s .args .name / 65536 * s .args .entries + s .args .name % 65536 < length (s .args .targets .now) = search name-in in
-    omega arith
+mul-if3 c = omega (arith, noted-in c)
 
--- src/messages.rt:28:8
 slice-read-if3 : tie.Need-slice-read-if3
-slice-read-if3 c = search name-in
+slice-read-if3 c = noted-in (c .before)
 
--- src/messages.rt:28:23
 add-if3 : tie.Need-add-if3
 add-if3 c = search needs
 
--- src/messages.rt:29:9
 returns-3 : tie.Need-returns-3
 returns-3 c = search arrive-elsewhere
 
--- src/messages.rt:31:5
 mul-targets : tie.Need-mul-targets
-mul-targets c =
-    let s = c .before .before .before .before in
-    let h : s .args .name / 65536 * s .args .entries + s .args .name % 65536 < length (s .args .targets .now) = search name-in in
-    omega arith
+mul-targets c = omega (arith, noted-in (c .before .before))
 
--- src/messages.rt:31:5
 slice-write-targets : tie.Need-slice-write-targets
-slice-write-targets c = search name-in
+slice-write-targets c = noted-in (c .before .before)
 
--- src/messages.rt:15:1
 same-length : tie.Need-same-length
 same-length c = search needs
 
--- src/messages.rt:15:1
 returns-4 : tie.Need-returns-4
 returns-4 c = search arrive-here
 

@@ -1,65 +1,48 @@
+-- `arrive_place` meets its contract.
 use borrow.Author.Needs.{needs}
 use Rattle.soundness.proofs.MessageTest.{place-arrives, place-arrives-not}
 use Rattle.soundness.proofs.messages.arrive_place.Statement.{statement}
 use Rattle.soundness.proofs.messages.arrive_place.Tie as tie
-use Rattle.soundness.proofs.messages.arrive_place.Reads as reads
-use Rattle.soundness.proofs.messages.arrive_place.Lts as lts
-use Rattle.soundness.proofs.messages.arrive_all.Reads as arrive-all-reads
-use Rattle.soundness.proofs.messages.arrive_taken.Reads as arrive-taken-reads
 
--- src/messages.rt:86:16
 add-from : tie.Need-add-from
 add-from c = search needs
 
--- src/messages.rt:87:39
 shared-slice-read-arrive-all : tie.Need-shared-slice-read-arrive-all
 shared-slice-read-arrive-all c = search needs
 
--- src/messages.rt:87:39
 cast-arrive-all : tie.Need-cast-arrive-all
 cast-arrive-all c = search needs
 
--- src/messages.rt:87:32
 add-arrive-all : tie.Need-add-arrive-all
 add-arrive-all c = search needs
 
--- src/messages.rt:87:19
 mul-arrive-all : tie.Need-mul-arrive-all
 mul-arrive-all c = search needs
 
--- src/messages.rt:87:19
 sub-arrive-all : tie.Need-sub-arrive-all
 sub-arrive-all c = search needs
 
--- src/messages.rt:87:19
 part-arrive-all-start : tie.Need-part-arrive-all-start
 part-arrive-all-start c = search needs
 
--- src/messages.rt:87:19
 part-arrive-all-end : tie.Need-part-arrive-all-end
 part-arrive-all-end c = search needs
 
--- src/messages.rt:87:8
 arrive-all-requires : tie.Need-arrive-all-requires
 arrive-all-requires c κs = search needs
 
--- src/messages.rt:88:9
 arrive-taken-requires : tie.Need-arrive-taken-requires
 arrive-taken-requires c κs = search needs
 
--- src/messages.rt:82:1
 same-length : tie.Need-same-length
 same-length c = search needs
 
--- src/messages.rt:82:1
 returns : tie.Need-returns
 returns c = search place-arrives
 
--- src/messages.rt:82:1
 same-length-2 : tie.Need-same-length-2
 same-length-2 c = search needs
 
--- src/messages.rt:82:1
 returns-2 : tie.Need-returns-2
 returns-2 c = search place-arrives-not
 

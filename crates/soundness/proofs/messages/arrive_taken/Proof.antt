@@ -1,8 +1,9 @@
-use Prim.Native.Nat.{ℕ, _+_, _≤_, _-_}
-use mathlib.Core.Path.{_≡_, refl, sym, _∙_, ap, subst}
+-- `arrive_taken` meets its contract.
+use Prim.Native.Nat.{ℕ, _+_, _≤_}
+use mathlib.Core.Path.{_≡_, refl, sym, ap, subst}
 use mathlib.Core.List.{List}
 use native.Mathlib.Omega.{arith}
-use lib.ListN.{length, take, drop, getD}
+use lib.ListN.{length}
 use lib.Seq.{length-take-le}
 use borrow.Author.Needs.{needs}
 use Rattle.lists.specs.Lists.{All}
@@ -13,9 +14,6 @@ use Rattle.soundness.proofs.SoundTestWalk.{behind, behind-short, slots-
 use Rattle.soundness.proofs.SoundTestRun.{slots-yes, slots-no, slots-done}
 use Rattle.soundness.proofs.messages.arrive_taken.Statement.{statement}
 use Rattle.soundness.proofs.messages.arrive_taken.Tie as tie
-use Rattle.soundness.proofs.messages.arrive_taken.Reads as reads
-use Rattle.soundness.proofs.messages.arrive_taken.Lts as lts
-use Rattle.soundness.proofs.messages.arrive_slot.Reads as arrive-slot-reads
 
 abbrev Inv-loop : tie.InvT-loop
 Inv-loop block count size words place places entries targets₀ t₀ left₀ targets t left =
@@ -33,23 +31,18 @@ facts c =
     let a = c .before .before .before .before .before .args in
     (slot-in (a .words) (a .size) (l .left) (l .t .now) (l .inv .0) (c .loop-test .taken), head-in (a .words) (a .size) (l .left) (l .t .now) (l .inv .0) (c .loop-test .taken))
 
--- src/messages.rt:68:17
 mul-t : tie.Need-mul-t Inv-loop μ-loop
 mul-t c = search needs
 
--- src/messages.rt:68:17
 sub-t : tie.Need-sub-t Inv-loop μ-loop
 sub-t c = search needs
 
--- src/messages.rt:68:17
 part-t-start : tie.Need-part-t-start Inv-loop μ-loop
 part-t-start c = search needs
 
--- src/messages.rt:68:17
 part-t-end : tie.Need-part-t-end Inv-loop μ-loop
 part-t-end c = search needs
 
--- src/messages.rt:70:5
 loop-holds : tie.Need-loop-holds Inv-loop μ-loop
 unfolding arriveTaken
 loop-holds c =
@@ -57,42 +50,33 @@ loop-holds c =
     let pre = c .before .before .before .pre in
     (slots-behind (a .words) (a .size) (a .count) (a .block .now) (pre .1), behind-short (a .size) (a .block .now), subst (λ (r : List ℕ). All (TakenFits (a .words)) (chop (a .count) (a .size) r)) (sym (behind (a .size) (a .block .now))) (pre .2), refl, ap (λ (r : List ℕ). runAll (arriveSlot (a .words) (a .places) (a .entries) (a .place)) (chop (a .count) (a .size) r) (a .targets .now)) (sym (behind (a .size) (a .block .now))))
 
--- src/messages.rt:71:24
 slice-aggregate-arrive-slot : tie.Need-slice-aggregate-arrive-slot Inv-loop μ-loop
 slice-aggregate-arrive-slot c = sym (length-take-le _ _ (let f = facts (c .before) in omega (arith, f .0, f .1)))
 
--- src/messages.rt:71:12
 arrive-slot-requires : tie.Need-arrive-slot-requires Inv-loop μ-loop
 arrive-slot-requires c κs =
     let s = c .before .before .before .before .before .before .before in
     let l = c .before .before .before .loop in
     (each-first (TakenFits (s .args .words)) (l .left) (s .args .size) (l .t .now) (l .inv .2) (c .before .before .loop-test .taken), (let h = s .pre .3 in omega (arith, l .inv .3)), s .pre .4, s .pre .5, s .pre .6)
 
--- src/messages.rt:72:17
 mul-t-2 : tie.Need-mul-t-2 Inv-loop μ-loop
 mul-t-2 c = let f = facts (c .before .before .before .before .before .before) in omega (arith, f .0, f .1)
 
--- src/messages.rt:72:17
 sub-t-2 : tie.Need-sub-t-2 Inv-loop μ-loop
 sub-t-2 c = let f = facts (c .before .before .before .before .before .before) in omega (arith, f .0, f .1)
 
--- src/messages.rt:72:17
 part-t-start-2 : tie.Need-part-t-start-2 Inv-loop μ-loop
 part-t-start-2 c = let f = facts (c .before .before .before .before .before .before) in omega (arith, f .0, f .1)
 
--- src/messages.rt:72:17
 part-t-end-2 : tie.Need-part-t-end-2 Inv-loop μ-loop
 part-t-end-2 c = let f = facts (c .before .before .before .before .before .before) in omega (arith, f .0, f .1)
 
--- src/messages.rt:73:13
 sub-left : tie.Need-sub-left Inv-loop μ-loop
 sub-left c = search needs
 
--- src/messages.rt:70:5
 loop-less : tie.Need-loop-less Inv-loop μ-loop
 loop-less c = search needs
 
--- src/messages.rt:70:5
 loop-again : tie.Need-loop-again Inv-loop μ-loop
 loop-again c =
     let a = c .before .before .before .before .before .before .before .before .before .before .before .before .args in
@@ -100,22 +84,18 @@ loop-again c =
     let some = c .before .before .before .before .before .before .before .loop-test .taken in
     (slots-next (a .words) (a .size) (l .left) (l .t .now) (l .inv .0) some, (let s = behind-short (a .size) (l .t .now) in omega (arith, l .inv .1)), each-next (TakenFits (a .words)) (l .left) (a .size) (l .t .now) (l .inv .2) some, search needs, slots-yes (arriveSlot (a .words) (a .places) (a .entries) (a .place)) _ (a .size) (l .left) (l .t .now) (l .targets) (l .inv .4) _ _ some (c .before .before .before .before .arrive-slot .ensures) (c .before .if1 .taken))
 
--- src/messages.rt:75:13
 same-length : tie.Need-same-length Inv-loop μ-loop
 same-length c = search needs
 
--- src/messages.rt:75:13
 returns : tie.Need-returns Inv-loop μ-loop
 returns c =
     let a = c .before .before .before .before .before .before .before .before .before .before .before .args in
     let l = c .before .before .before .before .before .before .before .loop in
     slots-no (arriveSlot (a .words) (a .places) (a .entries) (a .place)) _ (a .size) (l .left) (l .t .now) (l .targets) (l .inv .4) _ _ _ (c .before .before .before .before .before .before .loop-test .taken) (c .before .before .before .arrive-slot .ensures) (c .if1 .left)
 
--- src/messages.rt:64:1
 same-length-2 : tie.Need-same-length-2 Inv-loop μ-loop
 same-length-2 c = search needs
 
--- src/messages.rt:64:1
 returns-2 : tie.Need-returns-2 Inv-loop μ-loop
 returns-2 c =
     let a = c .before .before .before .before .before .args in

@@ -1,8 +1,8 @@
-use Prim.Native.Nat.{ℕ, _+_, _*_, _≤_, _-_}
-use mathlib.Core.Path.{_≡_, refl, sym, _∙_, ap, subst}
-use mathlib.Core.List.{List}
+-- `messages` meets its contract.
+use Prim.Native.Nat.{_+_, _*_, _≤_}
+use mathlib.Core.Path.{_≡_, refl, sym}
 use native.Mathlib.Omega.{arith}
-use lib.ListN.{length, take, drop, getD}
+use lib.ListN.{length}
 use lib.Seq.{length-take-le}
 use borrow.Author.Needs.{needs}
 use Rattle.lists.specs.Lists.{All}
@@ -12,9 +12,6 @@ use Rattle.soundness.proofs.SoundTestWalk.{first-in, behind-short, othe
 use Rattle.soundness.proofs.MessageTest.{from-yes, from-no, from-done}
 use Rattle.soundness.proofs.messages.messages.Statement.{statement}
 use Rattle.soundness.proofs.messages.messages.Tie as tie
-use Rattle.soundness.proofs.messages.messages.Reads as reads
-use Rattle.soundness.proofs.messages.messages.Lts as lts
-use Rattle.soundness.proofs.messages.arrive_place.Reads as arrive-place-reads
 
 abbrev Inv-loop : tie.InvT-loop
 Inv-loop blocks places len count size words entries targets₀ t₀ left₀ place₀ targets t left place =
@@ -27,15 +24,12 @@ abbrev μ-loop : tie.MeasureT-loop
 fits : (c : tie.In-loop Inv-loop μ-loop) → c .before .before .before .before .args .len ≤ length (c .before .loop .t .now)
 fits c = first-in (c .before .loop .left) (c .before .before .before .before .args .len) (length (c .before .loop .t .now)) (c .before .loop .inv .0) (c .loop-test .taken)
 
--- src/messages.rt:139:5
 loop-holds : tie.Need-loop-holds Inv-loop μ-loop
 loop-holds c = (c .before .before .pre .0, omega arith, c .before .before .pre .1, refl, omega arith, refl)
 
--- src/messages.rt:140:25
 slice-aggregate-arrive-place : tie.Need-slice-aggregate-arrive-place Inv-loop μ-loop
 slice-aggregate-arrive-place c = sym (length-take-le _ _ (fits (c .before)))
 
--- src/messages.rt:140:12
 arrive-place-requires : tie.Need-arrive-place-requires Inv-loop μ-loop
 arrive-place-requires c κs =
     let s = c .before .before .before .before .before .before in
@@ -44,35 +38,27 @@ arrive-place-requires c κs =
     let x = each-first (TakenBlock (s .args .words) (s .args .size) (s .args .count)) (l .left) (s .args .len) (l .t .now) (l .inv .2) some in
     (x, (let h = s .pre .2 in omega (arith, l .inv .3)), (let h = s .pre .3 in omega (arith, l .inv .4)), s .pre .3, s .pre .4)
 
--- src/messages.rt:141:17
 mul-t : tie.Need-mul-t Inv-loop μ-loop
 mul-t c = omega (arith, fits (c .before .before .before .before .before .before))
 
--- src/messages.rt:141:17
 sub-t : tie.Need-sub-t Inv-loop μ-loop
 sub-t c = omega (arith, fits (c .before .before .before .before .before .before))
 
--- src/messages.rt:141:17
 part-t-start : tie.Need-part-t-start Inv-loop μ-loop
 part-t-start c = omega (arith, fits (c .before .before .before .before .before .before))
 
--- src/messages.rt:141:17
 part-t-end : tie.Need-part-t-end Inv-loop μ-loop
 part-t-end c = omega (arith, fits (c .before .before .before .before .before .before))
 
--- src/messages.rt:142:13
 sub-left : tie.Need-sub-left Inv-loop μ-loop
 sub-left c = search needs
 
--- src/messages.rt:143:13
 add-place : tie.Need-add-place Inv-loop μ-loop
 add-place c = let s = c .before .before .before .before .before .before .before .before .before .before .before in let h = s .pre .3 in omega (arith, c .before .before .before .before .before .before .before .before .loop .inv .4, c .before .before .before .before .before .before .before .loop-test .taken)
 
--- src/messages.rt:139:5
 loop-less : tie.Need-loop-less Inv-loop μ-loop
 loop-less c = search needs
 
--- src/messages.rt:139:5
 loop-again : tie.Need-loop-again Inv-loop μ-loop
 loop-again c =
     let a = c .before .before .before .before .before .before .before .before .before .before .before .args in
@@ -80,22 +66,18 @@ loop-again c =
     let some = c .before .before .before .before .before .before .before .loop-test .taken in
     (others-lent (l .left) (a .len) (l .t .now) (l .inv .0) some, (let s = behind-short (a .len) (l .t .now) in omega (arith, l .inv .1)), each-next (TakenBlock (a .words) (a .size) (a .count)) (l .left) (a .len) (l .t .now) (l .inv .2) some, search needs, omega (arith, l .inv .4, some), from-yes (a .words) (a .size) (a .count) (a .places) (a .entries) (l .place) (a .len) (l .left) (l .t .now) (l .targets) _ (l .inv .5) _ _ some (c .before .before .before .before .arrive-place .ensures) (c .before .if1 .taken))
 
--- src/messages.rt:145:13
 same-length : tie.Need-same-length Inv-loop μ-loop
 same-length c = search needs
 
--- src/messages.rt:145:13
 returns : tie.Need-returns Inv-loop μ-loop
 returns c =
     let a = c .before .before .before .before .before .before .before .before .before .before .args in
     let l = c .before .before .before .before .before .before .before .loop in
     from-no (a .words) (a .size) (a .count) (a .places) (a .entries) (l .place) (a .len) (l .left) (l .t .now) (l .targets) _ (l .inv .5) _ _ _ (c .before .before .before .before .before .before .loop-test .taken) (c .before .before .before .arrive-place .ensures) (c .if1 .left)
 
--- src/messages.rt:132:1
 same-length-2 : tie.Need-same-length-2 Inv-loop μ-loop
 same-length-2 c = search needs
 
--- src/messages.rt:132:1
 returns-2 : tie.Need-returns-2 Inv-loop μ-loop
 returns-2 c =
     let a = c .before .before .before .before .args in

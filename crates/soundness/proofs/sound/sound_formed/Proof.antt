@@ -5,96 +5,70 @@ use Rattle.soundness.proofs.SoundDecided.{bad-module, bad-functions, im
 use borrow.Author.Needs.{needs}
 use Rattle.soundness.proofs.sound.sound_formed.Statement.{statement}
 use Rattle.soundness.proofs.sound.sound_formed.Tie as tie
-use Rattle.soundness.proofs.sound.sound_formed.Reads as reads
-use Rattle.soundness.proofs.sound.sound_formed.Lts as lts
-use Rattle.soundness.proofs.sound.sound_blocks.Reads as sound-blocks-reads
-use Rattle.term.proofs.module.check_module.Reads as check-module-reads
-use Rattle.term.proofs.module.read_functions.Reads as read-functions-reads
 
--- src/sound.rt:122:22
 shared-slice-read-end : tie.Need-shared-slice-read-end
 shared-slice-read-end c = search needs
 
--- src/sound.rt:122:22
 cast-end : tie.Need-cast-end
 cast-end c = search needs
 
--- src/sound.rt:122:15
 add-end : tie.Need-add-end
 add-end c = search needs
 
--- src/sound.rt:123:32
 sub-check-module : tie.Need-sub-check-module
 sub-check-module c = search needs
 
--- src/sound.rt:123:32
 part-check-module-start : tie.Need-part-check-module-start
 part-check-module-start c = search needs
 
--- src/sound.rt:123:32
 part-check-module-end : tie.Need-part-check-module-end
 part-check-module-end c = search needs
 
--- src/sound.rt:123:9
 check-module-requires : tie.Need-check-module-requires
 check-module-requires c κs = search needs
 
 enum-told : tie.Need-enum-told
 enum-told c = search needs
 
--- src/sound.rt:125:9
 enum-told-2 : tie.Need-enum-told-2
 enum-told-2 c = search needs
 
--- src/sound.rt:125:9
 returns : tie.Need-returns
 returns c = search bad-module
 
--- src/sound.rt:128:32
 sub-read-functions : tie.Need-sub-read-functions
 sub-read-functions c = search needs
 
--- src/sound.rt:128:32
 part-read-functions-start : tie.Need-part-read-functions-start
 part-read-functions-start c = search needs
 
--- src/sound.rt:128:32
 part-read-functions-end : tie.Need-part-read-functions-end
 part-read-functions-end c = search needs
 
--- src/sound.rt:128:51
 slice-aggregate-read-functions : tie.Need-slice-aggregate-read-functions
 slice-aggregate-read-functions c = search needs
 
--- src/sound.rt:128:9
 read-functions-requires : tie.Need-read-functions-requires
 read-functions-requires c κs = search needs
 
--- src/sound.rt:129:26
 enum-known-shape : tie.Need-enum-known-shape
 enum-known-shape c = search needs
 
--- src/sound.rt:130:9
 enum-told-3 : tie.Need-enum-told-3
 enum-told-3 c = search needs
 
--- src/sound.rt:130:9
 returns-2 : tie.Need-returns-2
 returns-2 c = search bad-functions
 
--- src/sound.rt:132:25
 array-share-prefix-counts : tie.Need-array-share-prefix-counts
 array-share-prefix-counts c = c .before .before .before .before .read-functions .ensures .counted _ (c .before .shape .given .1) .1
 
--- src/sound.rt:132:25
 slice-aggregate-sound-blocks : tie.Need-slice-aggregate-sound-blocks
 slice-aggregate-sound-blocks c = sym (length-take-le _ _ (c .before .before .before .before .before .read-functions .ensures .counted _ (c .before .before .shape .given .1) .1))
 
--- src/sound.rt:132:5
 sound-blocks-requires : tie.Need-sound-blocks-requires
 sound-blocks-requires c κs = search needs
 
--- src/sound.rt:118:1
 returns-3 : tie.Need-returns-3
 returns-3 c = search image-decided
 

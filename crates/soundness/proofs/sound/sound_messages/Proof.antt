@@ -6,48 +6,35 @@ use Rattle.soundness.proofs.StoreTest.{messages-refused, messages-lost,
 use borrow.Author.Needs.{needs}
 use Rattle.soundness.proofs.sound.sound_messages.Statement.{statement}
 use Rattle.soundness.proofs.sound.sound_messages.Tie as tie
-use Rattle.soundness.proofs.sound.sound_messages.Reads as reads
-use Rattle.soundness.proofs.sound.sound_messages.Lts as lts
-use Rattle.soundness.proofs.flows.flows.Reads as flows-reads
-use Rattle.soundness.proofs.messages.messages.Reads as messages-reads
-use Rattle.soundness.proofs.sound_sends.note_places.Reads as note-places-reads
 
--- src/sound.rt:43:62
 slice-aggregate-note-places : tie.Need-slice-aggregate-note-places
 slice-aggregate-note-places c = search needs
 
--- src/sound.rt:43:8
 note-places-requires : tie.Need-note-places-requires
 note-places-requires c κs =
     let s = c .before .before .before in
     (s .pre .0, s .pre .1, s .pre .5, s .pre .6, mul-le-mul {n₁ = s .args .places} {m₁ = s .args .entries} {n₂ = 16} {m₂ = 64} (s .pre .3) (s .pre .4))
 
--- src/sound.rt:52:13
 slice-aggregate-messages : tie.Need-slice-aggregate-messages
 slice-aggregate-messages c = search needs
 
--- src/sound.rt:44:12
 messages-requires : tie.Need-messages-requires
 messages-requires c κs =
     let s = c .before .before .before .before .before .before .before in
     let room = mul-le-mul {n₁ = s .args .places} {m₁ = s .args .entries} {n₂ = 16} {m₂ = 64} (s .pre .3) (s .pre .4) in
     (s .pre .0, s .pre .2, omega (arith, room, c .before .before .before .note-places .kept .1 .1 .1 .1 .1 .1 .0), s .pre .3, s .pre .4)
 
--- src/sound.rt:54:13
 flows-requires : tie.Need-flows-requires
 flows-requires c κs =
     let s = c .before .before .before .before .before .before .before .before .before .before in
     (s .pre .0, all-so (λ b x. x .block) _ (s .pre .2))
 
--- src/sound.rt:30:1
 returns : tie.Need-returns
 returns c = search messages-flow
 
--- src/sound.rt:30:1
 returns-2 : tie.Need-returns-2
 returns-2 c = search messages-lost
 
--- src/sound.rt:30:1
 returns-3 : tie.Need-returns-3
 returns-3 c = search messages-refused
 

@@ -1,18 +1,16 @@
+-- `all_born` meets its contract.
 use Prim.Native.Nat.{ℕ, _≤_, _<_, _-_}
-use mathlib.Core.Path.{_≡_, refl, sym, _∙_}
+use mathlib.Core.Path.{_≡_}
 use mathlib.Core.Bool.{true, false}
 use native.Mathlib.Omega.{arith}
 use lib.ListN.{length, getD}
 use borrow.Author.Needs.{needs}
-use Rattle.lists.proofs.Decides.{yes-to, no-to}
+use Rattle.lists.proofs.Decides.{yes-to}
 use mathlib.Core.Logic.{⊎-elim}
 use Rattle.lists.proofs.Tests.{true-not-false}
-use Rattle.soundness.specs.SoundTests.{AllBorn}
 use Rattle.soundness.proofs.SoundTestBirths.{born-breaks, born-next, not-true, not-false}
 use Rattle.soundness.proofs.sound_births.all_born.Statement.{statement}
 use Rattle.soundness.proofs.sound_births.all_born.Tie as tie
-use Rattle.soundness.proofs.sound_births.all_born.Reads as reads
-use Rattle.soundness.proofs.sound_births.all_born.Lts as lts
 
 abbrev Inv-loop : tie.InvT-loop
 Inv-loop live born q₀ q = (1 ≤ q) × ((k : ℕ) → 0 < k → k < q → getD live k false ≡ true → getD born k false ≡ true)
@@ -20,35 +18,27 @@ Inv-loop live born q₀ q = (1 ≤ q) × ((k : ℕ) → 0 < k → k < q → getD
 abbrev μ-loop : tie.MeasureT-loop
 μ-loop live born q₀ q = length live - q
 
--- src/sound_births.rt:66:5
 loop-holds : tie.Need-loop-holds Inv-loop μ-loop
 loop-holds c = (omega arith, λ k a b. absurd (omega arith))
 
--- src/sound_births.rt:67:12
 shared-slice-read-if1 : tie.Need-shared-slice-read-if1 Inv-loop μ-loop
 shared-slice-read-if1 c = search needs
 
--- src/sound_births.rt:67:24
 shared-slice-read-if2 : tie.Need-shared-slice-read-if2 Inv-loop μ-loop
 shared-slice-read-if2 c = search needs
 
--- src/sound_births.rt:68:13
 returns : tie.Need-returns Inv-loop μ-loop
 returns c = born-breaks _ _ _ (c .before .before .before .before .before .loop .inv .0) (omega arith) (c .before .before .if1 .taken) (not-true _ (c .if2 .taken))
 
--- src/sound_births.rt:70:9
 add-q : tie.Need-add-q Inv-loop μ-loop
 add-q c = search needs
 
--- src/sound_births.rt:66:5
 loop-less : tie.Need-loop-less Inv-loop μ-loop
 loop-less c = search needs
 
--- src/sound_births.rt:66:5
 loop-again : tie.Need-loop-again Inv-loop μ-loop
 loop-again c = (omega arith, let a = c .before .before .before .before .args in born-next (a .live .now) (a .born .now) (c .before .before .before .loop .q) (c .before .before .before .loop .inv .0) (c .before .before .before .loop .inv .1) (⊎-elim (λ w. λ l. not-false _ (w .2 .left)) (λ w. λ l. absurd (true-not-false l (w .left))) (c .if1 .came)))
 
--- src/sound_births.rt:61:1
 returns-2 : tie.Need-returns-2 Inv-loop μ-loop
 returns-2 c = yes-to (record { each = λ k h g. c .before .loop .inv .1 k h (omega (arith, c .loop-test .left)) })
 

@@ -1,43 +1,33 @@
+-- `bear` meets its contract.
 use borrow.Author.Needs.{needs}
 use Rattle.soundness.proofs.SoundTestBirths.{bear-zero, bear-outside, bear-dead, bear-twice, bear-first}
 use Rattle.soundness.proofs.sound_births.bear.Statement.{statement}
 use Rattle.soundness.proofs.sound_births.bear.Tie as tie
-use Rattle.soundness.proofs.sound_births.bear.Reads as reads
-use Rattle.soundness.proofs.sound_births.bear.Lts as lts
 
--- src/sound_births.rt:16:9
 returns : tie.Need-returns
 returns c = search bear-zero
 
--- src/sound_births.rt:19:9
 returns-2 : tie.Need-returns-2
 returns-2 c = search bear-outside
 
--- src/sound_births.rt:21:8
 shared-slice-read-if3 : tie.Need-shared-slice-read-if3
 shared-slice-read-if3 c = search needs
 
--- src/sound_births.rt:22:12
 slice-read-if4 : tie.Need-slice-read-if4
 slice-read-if4 c = search needs
 
--- src/sound_births.rt:23:13
 returns-3 : tie.Need-returns-3
 returns-3 c = search bear-twice
 
--- src/sound_births.rt:25:9
 slice-write-born : tie.Need-slice-write-born
 slice-write-born c = search needs
 
--- src/sound_births.rt:26:9
 same-length : tie.Need-same-length
 same-length c = search needs
 
--- src/sound_births.rt:26:9
 returns-4 : tie.Need-returns-4
 returns-4 c = search bear-first
 
--- src/sound_births.rt:11:1
 returns-5 : tie.Need-returns-5
 returns-5 c = search bear-dead
 

@@ -1,8 +1,9 @@
-use Prim.Native.Nat.{ℕ, _+_, _≤_, _-_}
+-- `bear_place` meets its contract.
+use Prim.Native.Nat.{ℕ, _+_, _≤_}
 use mathlib.Core.Path.{_≡_, refl, sym, _∙_, ap}
 use mathlib.Core.List.{List}
 use native.Mathlib.Omega.{arith}
-use lib.ListN.{length, take, drop, getD}
+use lib.ListN.{length}
 use lib.Seq.{length-take-le}
 use borrow.Author.Needs.{needs}
 use Rattle.lists.proofs.Blocks.{chop}
@@ -12,9 +13,6 @@ use Rattle.soundness.proofs.SoundTestWalk.{behind, behind-short, slots-
 use Rattle.soundness.proofs.SoundTestRun.{slots-yes, slots-no, slots-done}
 use Rattle.soundness.proofs.sound_births.bear_place.Statement.{statement}
 use Rattle.soundness.proofs.sound_births.bear_place.Tie as tie
-use Rattle.soundness.proofs.sound_births.bear_place.Reads as reads
-use Rattle.soundness.proofs.sound_births.bear_place.Lts as lts
-use Rattle.soundness.proofs.sound_births.bear_slot.Reads as bear-slot-reads
 
 abbrev Inv-loop : tie.InvT-loop
 Inv-loop block count size live born₀ t₀ left₀ born t left =
@@ -32,65 +30,51 @@ facts c =
     let a = c .before .before .before .before .before .before .args in
     (slot-in 0 (a .size) (l .left) (l .t .now) (l .inv .0) (c .loop-test .taken), head-in 0 (a .size) (l .left) (l .t .now) (l .inv .0) (c .loop-test .taken))
 
--- src/sound_births.rt:46:17
 mul-t : tie.Need-mul-t Inv-loop μ-loop
 mul-t c = search needs
 
--- src/sound_births.rt:46:17
 sub-t : tie.Need-sub-t Inv-loop μ-loop
 sub-t c = search needs
 
--- src/sound_births.rt:46:17
 part-t-start : tie.Need-part-t-start Inv-loop μ-loop
 part-t-start c = search needs
 
--- src/sound_births.rt:46:17
 part-t-end : tie.Need-part-t-end Inv-loop μ-loop
 part-t-end c = search needs
 
--- src/sound_births.rt:48:5
 loop-holds : tie.Need-loop-holds Inv-loop μ-loop
 unfolding bearPlace
 loop-holds c =
     let a = c .before .before .before .before .args in
     (slots-behind 0 (a .size) (a .count) (a .block .now) (c .before .before .before .before .pre .1), behind-short (a .size) (a .block .now), refl, ap (λ (r : List ℕ). runAll (bearSlot (a .live .now)) (chop (a .count) (a .size) r) (a .born .now)) (sym (behind (a .size) (a .block .now))))
 
--- src/sound_births.rt:49:22
 slice-aggregate-bear-slot : tie.Need-slice-aggregate-bear-slot Inv-loop μ-loop
 slice-aggregate-bear-slot c = sym (length-take-le _ _ (let f = facts (c .before) in omega (arith, f .0, f .1)))
 
--- src/sound_births.rt:49:12
 bear-slot-requires : tie.Need-bear-slot-requires Inv-loop μ-loop
 bear-slot-requires c κs =
     let f = facts (c .before .before) in
     let s = c .before .before .before .before .before .before .before .before in
     (omega (arith, f .0, f .1, length-take-le (s .args .size) (c .before .before .before .loop .t .now) (f .0)), s .pre .2 ∙ sym (c .before .before .before .loop .inv .2))
 
--- src/sound_births.rt:50:17
 mul-t-2 : tie.Need-mul-t-2 Inv-loop μ-loop
 mul-t-2 c = let f = facts (c .before .before .before .before .before .before) in omega (arith, f .0, f .1)
 
--- src/sound_births.rt:50:17
 sub-t-2 : tie.Need-sub-t-2 Inv-loop μ-loop
 sub-t-2 c = let f = facts (c .before .before .before .before .before .before) in omega (arith, f .0, f .1)
 
--- src/sound_births.rt:50:17
 part-t-start-2 : tie.Need-part-t-start-2 Inv-loop μ-loop
 part-t-start-2 c = let f = facts (c .before .before .before .before .before .before) in omega (arith, f .0, f .1)
 
--- src/sound_births.rt:50:17
 part-t-end-2 : tie.Need-part-t-end-2 Inv-loop μ-loop
 part-t-end-2 c = let f = facts (c .before .before .before .before .before .before) in omega (arith, f .0, f .1)
 
--- src/sound_births.rt:51:13
 sub-left : tie.Need-sub-left Inv-loop μ-loop
 sub-left c = search needs
 
--- src/sound_births.rt:48:5
 loop-less : tie.Need-loop-less Inv-loop μ-loop
 loop-less c = search needs
 
--- src/sound_births.rt:48:5
 loop-again : tie.Need-loop-again Inv-loop μ-loop
 loop-again c =
     let a = c .before .before .before .before .before .before .before .before .before .before .before .before .before .args in
@@ -98,22 +82,18 @@ loop-again c =
     let some = c .before .before .before .before .before .before .before .loop-test .taken in
     (slots-next 0 (a .size) (l .left) (l .t .now) (l .inv .0) some, (let s = behind-short (a .size) (l .t .now) in omega (arith, l .inv .1)), search needs, slots-yes (bearSlot (a .live .now)) _ (a .size) (l .left) (l .t .now) (l .born) (l .inv .3) _ _ some (c .before .before .before .before .bear-slot .ensures) (c .before .if1 .taken))
 
--- src/sound_births.rt:53:13
 same-length : tie.Need-same-length Inv-loop μ-loop
 same-length c = search needs
 
--- src/sound_births.rt:53:13
 returns : tie.Need-returns Inv-loop μ-loop
 returns c =
     let a = c .before .before .before .before .before .before .before .before .before .before .before .before .args in
     let l = c .before .before .before .before .before .before .before .loop in
     slots-no (bearSlot (a .live .now)) _ (a .size) (l .left) (l .t .now) (l .born) (l .inv .3) _ _ _ (c .before .before .before .before .before .before .loop-test .taken) (c .before .before .before .bear-slot .ensures) (c .if1 .left)
 
--- src/sound_births.rt:42:1
 same-length-2 : tie.Need-same-length-2 Inv-loop μ-loop
 same-length-2 c = search needs
 
--- src/sound_births.rt:42:1
 returns-2 : tie.Need-returns-2 Inv-loop μ-loop
 returns-2 c =
     let a = c .before .before .before .before .before .before .args in

@@ -1,8 +1,8 @@
-use Prim.Native.Nat.{ℕ, _+_, _*_, _≤_, _-_}
-use mathlib.Core.Path.{_≡_, refl, sym, _∙_, ap, subst}
-use mathlib.Core.List.{List}
+-- `bear_places` meets its contract.
+use Prim.Native.Nat.{_*_, _≤_}
+use mathlib.Core.Path.{_≡_, refl, sym, _∙_}
 use native.Mathlib.Omega.{arith}
-use lib.ListN.{length, take, drop, getD}
+use lib.ListN.{length}
 use lib.Seq.{length-take-le}
 use borrow.Author.Needs.{needs}
 use Rattle.lists.specs.Lists.{All}
@@ -12,9 +12,6 @@ use Rattle.soundness.proofs.SoundTestWalk.{first-in, behind-short, othe
 use Rattle.soundness.proofs.SoundTestRun.{slots-yes, slots-no, slots-done}
 use Rattle.soundness.proofs.sound_births.bear_places.Statement.{statement}
 use Rattle.soundness.proofs.sound_births.bear_places.Tie as tie
-use Rattle.soundness.proofs.sound_births.bear_places.Reads as reads
-use Rattle.soundness.proofs.sound_births.bear_places.Lts as lts
-use Rattle.soundness.proofs.sound_births.bear_place.Reads as bear-place-reads
 
 abbrev Inv-loop : tie.InvT-loop
 Inv-loop blocks places len count size live born₀ t₀ left₀ born t left =
@@ -27,15 +24,12 @@ abbrev μ-loop : tie.MeasureT-loop
 fits : (c : tie.In-loop Inv-loop μ-loop) → c .before .before .before .before .before .args .len ≤ length (c .before .loop .t .now)
 fits c = first-in (c .before .loop .left) (c .before .before .before .before .before .args .len) (length (c .before .loop .t .now)) (c .before .loop .inv .0) (c .loop-test .taken)
 
--- src/sound_births.rt:84:5
 loop-holds : tie.Need-loop-holds Inv-loop μ-loop
 loop-holds c = (c .before .before .before .pre .0, omega arith, c .before .before .before .pre .1, refl, refl)
 
--- src/sound_births.rt:85:23
 slice-aggregate-bear-place : tie.Need-slice-aggregate-bear-place Inv-loop μ-loop
 slice-aggregate-bear-place c = sym (length-take-le _ _ (fits (c .before)))
 
--- src/sound_births.rt:85:12
 bear-place-requires : tie.Need-bear-place-requires Inv-loop μ-loop
 bear-place-requires c κs =
     let s = c .before .before .before .before .before .before .before in
@@ -43,31 +37,24 @@ bear-place-requires c κs =
     let x = each-first (Block 0 (s .args .size) (s .args .count)) (l .left) (s .args .len) (l .t .now) (l .inv .2) (c .before .before .loop-test .taken) in
     (x .first-fits, x .slots, s .pre .2 ∙ sym (l .inv .3))
 
--- src/sound_births.rt:86:17
 mul-t : tie.Need-mul-t Inv-loop μ-loop
 mul-t c = omega (arith, fits (c .before .before .before .before .before .before))
 
--- src/sound_births.rt:86:17
 sub-t : tie.Need-sub-t Inv-loop μ-loop
 sub-t c = omega (arith, fits (c .before .before .before .before .before .before))
 
--- src/sound_births.rt:86:17
 part-t-start : tie.Need-part-t-start Inv-loop μ-loop
 part-t-start c = omega (arith, fits (c .before .before .before .before .before .before))
 
--- src/sound_births.rt:86:17
 part-t-end : tie.Need-part-t-end Inv-loop μ-loop
 part-t-end c = omega (arith, fits (c .before .before .before .before .before .before))
 
--- src/sound_births.rt:87:13
 sub-left : tie.Need-sub-left Inv-loop μ-loop
 sub-left c = search needs
 
--- src/sound_births.rt:84:5
 loop-less : tie.Need-loop-less Inv-loop μ-loop
 loop-less c = search needs
 
--- src/sound_births.rt:84:5
 loop-again : tie.Need-loop-again Inv-loop μ-loop
 loop-again c =
     let a = c .before .before .before .before .before .before .before .before .before .before .before .before .args in
@@ -75,22 +62,18 @@ loop-again c =
     let some = c .before .before .before .before .before .before .before .loop-test .taken in
     (others-lent (l .left) (a .len) (l .t .now) (l .inv .0) some, (let s = behind-short (a .len) (l .t .now) in omega (arith, l .inv .1)), each-next (Block 0 (a .size) (a .count)) (l .left) (a .len) (l .t .now) (l .inv .2) some, search needs, slots-yes (bearPlace (a .size) (a .count) (a .live .now)) _ (a .len) (l .left) (l .t .now) (l .born) (l .inv .4) _ _ some (c .before .before .before .before .bear-place .ensures) (c .before .if1 .taken))
 
--- src/sound_births.rt:89:13
 same-length : tie.Need-same-length Inv-loop μ-loop
 same-length c = search needs
 
--- src/sound_births.rt:89:13
 returns : tie.Need-returns Inv-loop μ-loop
 returns c =
     let a = c .before .before .before .before .before .before .before .before .before .before .before .args in
     let l = c .before .before .before .before .before .before .before .loop in
     slots-no (bearPlace (a .size) (a .count) (a .live .now)) _ (a .len) (l .left) (l .t .now) (l .born) (l .inv .4) _ _ _ (c .before .before .before .before .before .before .loop-test .taken) (c .before .before .before .bear-place .ensures) (c .if1 .left)
 
--- src/sound_births.rt:78:1
 same-length-2 : tie.Need-same-length-2 Inv-loop μ-loop
 same-length-2 c = search needs
 
--- src/sound_births.rt:78:1
 returns-2 : tie.Need-returns-2 Inv-loop μ-loop
 returns-2 c =
     let a = c .before .before .before .before .before .args in

@@ -1,37 +1,28 @@
+-- `bear_slot` meets its contract.
 use borrow.Author.Needs.{needs}
 use native.Mathlib.Omega.{arith}
 use Rattle.soundness.proofs.SoundTestBirths.{slot-bears, slot-bears-not}
 use Rattle.soundness.proofs.sound_births.bear_slot.Statement.{statement}
 use Rattle.soundness.proofs.sound_births.bear_slot.Tie as tie
-use Rattle.soundness.proofs.sound_births.bear_slot.Reads as reads
-use Rattle.soundness.proofs.sound_births.bear_slot.Lts as lts
-use Rattle.soundness.proofs.sound_births.bear.Reads as bear-reads
 
--- src/sound_births.rt:36:8
 shared-slice-read-if1 : tie.Need-shared-slice-read-if1
 shared-slice-read-if1 c = search needs
 
--- src/sound_births.rt:37:21
 shared-slice-read-bear : tie.Need-shared-slice-read-bear
 shared-slice-read-bear c = search needs
 
--- src/sound_births.rt:37:21
 cast-bear : tie.Need-cast-bear
 cast-bear c = omega (arith, c .shared-slice-known4 .given 2)
 
--- src/sound_births.rt:37:9
 bear-requires : tie.Need-bear-requires
 bear-requires c κs = search needs
 
--- src/sound_births.rt:37:9
 same-length : tie.Need-same-length
 same-length c = search needs
 
--- src/sound_births.rt:37:9
 returns : tie.Need-returns
 returns c = search slot-bears
 
--- src/sound_births.rt:32:1
 returns-2 : tie.Need-returns-2
 returns-2 c = search slot-bears-not
 

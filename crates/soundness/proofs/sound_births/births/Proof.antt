@@ -1,33 +1,24 @@
+-- `births` meets its contract.
 use borrow.Author.Needs.{needs}
 use Rattle.soundness.proofs.SoundTestBirths.{births-marked, births-refused}
 use Rattle.soundness.proofs.sound_births.births.Statement.{statement}
 use Rattle.soundness.proofs.sound_births.births.Tie as tie
-use Rattle.soundness.proofs.sound_births.births.Reads as reads
-use Rattle.soundness.proofs.sound_births.births.Lts as lts
-use Rattle.soundness.proofs.sound_births.all_born.Reads as all-born-reads
-use Rattle.soundness.proofs.sound_births.bear_places.Reads as bear-places-reads
 
--- src/sound_births.rt:101:60
 slice-aggregate-bear-places : tie.Need-slice-aggregate-bear-places
 slice-aggregate-bear-places c = search needs
 
--- src/sound_births.rt:101:8
 bear-places-requires : tie.Need-bear-places-requires
 bear-places-requires c κs = search needs
 
--- src/sound_births.rt:102:24
 slice-aggregate-all-born : tie.Need-slice-aggregate-all-born
 slice-aggregate-all-born c = search needs
 
--- src/sound_births.rt:102:9
 all-born-requires : tie.Need-all-born-requires
 all-born-requires c κs = search needs
 
--- src/sound_births.rt:96:1
 returns : tie.Need-returns
 returns c = search births-marked
 
--- src/sound_births.rt:96:1
 returns-2 : tie.Need-returns-2
 returns-2 c = search births-refused
 

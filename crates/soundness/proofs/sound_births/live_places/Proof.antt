@@ -1,8 +1,9 @@
-use Prim.Native.Nat.{ℕ, _+_, _*_, _≤_, _-_}
-use mathlib.Core.Path.{_≡_, refl, sym, _∙_, ap}
+-- `live_places` meets its contract.
+use Prim.Native.Nat.{_+_, _*_, _≤_}
+use mathlib.Core.Path.{_≡_, refl, _∙_}
 use mathlib.Core.Bool.{false}
 use native.Mathlib.Omega.{arith}
-use lib.ListN.{length, getD, replicate, length-set}
+use lib.ListN.{length, replicate, length-set}
 use borrow.Author.Needs.{needs}
 use Rattle.lists.proofs.Blocks.{chop}
 use Rattle.soundness.specs.SoundTests.{liveFrom}
@@ -10,8 +11,6 @@ use Rattle.soundness.proofs.SoundTestWalk.{first-in, behind-short, othe
 use Rattle.soundness.proofs.SoundTestBirths.{live-next, live-done}
 use Rattle.soundness.proofs.sound_births.live_places.Statement.{statement}
 use Rattle.soundness.proofs.sound_births.live_places.Tie as tie
-use Rattle.soundness.proofs.sound_births.live_places.Reads as reads
-use Rattle.soundness.proofs.sound_births.live_places.Lts as lts
 
 abbrev Inv-loop : tie.InvT-loop
 Inv-loop blocks places len live₀ t₀ left₀ p₀ live t left p =
@@ -24,47 +23,36 @@ abbrev μ-loop : tie.MeasureT-loop
 fits : (c : tie.In-loop Inv-loop μ-loop) → c .before .before .args .len ≤ length (c .before .loop .t .now)
 fits c = first-in (c .before .loop .left) (c .before .before .args .len) (length (c .before .loop .t .now)) (c .before .loop .inv .0) (c .loop-test .taken)
 
--- src/sound_births.rt:134:5
 loop-holds : tie.Need-loop-holds Inv-loop μ-loop
 loop-holds c = (c .pre .0, omega arith, omega arith, refl, refl)
 
--- src/sound_births.rt:135:19
 shared-slice-read-live : tie.Need-shared-slice-read-live Inv-loop μ-loop
 shared-slice-read-live c = let one = c .before .before .before .pre .1 in omega (arith, fits (c .before))
 
--- src/sound_births.rt:135:9
 array-write-live : tie.Need-array-write-live Inv-loop μ-loop
 array-write-live c = let few = c .before .before .before .pre .2 in omega (arith, c .before .before .loop .inv .2, c .before .loop-test .taken)
 
--- src/sound_births.rt:136:13
 mul-t : tie.Need-mul-t Inv-loop μ-loop
 mul-t c = omega (arith, fits (c .before))
 
--- src/sound_births.rt:136:13
 sub-t : tie.Need-sub-t Inv-loop μ-loop
 sub-t c = omega (arith, fits (c .before))
 
--- src/sound_births.rt:136:13
 part-t-start : tie.Need-part-t-start Inv-loop μ-loop
 part-t-start c = omega (arith, fits (c .before))
 
--- src/sound_births.rt:136:13
 part-t-end : tie.Need-part-t-end Inv-loop μ-loop
 part-t-end c = omega (arith, fits (c .before))
 
--- src/sound_births.rt:137:9
 sub-left : tie.Need-sub-left Inv-loop μ-loop
 sub-left c = search needs
 
--- src/sound_births.rt:138:9
 add-p : tie.Need-add-p Inv-loop μ-loop
 add-p c = let few = c .before .before .before .before .pre .2 in omega (arith, c .before .before .before .loop .inv .2)
 
--- src/sound_births.rt:134:5
 loop-less : tie.Need-loop-less Inv-loop μ-loop
 loop-less c = search needs
 
--- src/sound_births.rt:134:5
 loop-again : tie.Need-loop-again Inv-loop μ-loop
 loop-again c =
     let a = c .before .before .before .before .args in
@@ -72,7 +60,6 @@ loop-again c =
     let some = c .before .before .loop-test .taken in
     (others-lent (l .left) (a .len) (l .t .now) (l .inv .0) some, (let s = behind-short (a .len) (l .t .now) in omega (arith, l .inv .1)), omega (arith, l .inv .2, some), length-set (l .live) (l .p) _ ∙ l .inv .3, live-next (l .p) (a .len) (l .left) (l .t .now) (l .live) _ (l .inv .4) (c .before .before .before .before .pre .1) some)
 
--- src/sound_births.rt:126:1
 returns : tie.Need-returns Inv-loop μ-loop
 returns c =
     let l = c .before .loop in

@@ -1,5 +1,5 @@
 -- `soundness::sound_sends::note_place` meets its contract.
-use Prim.Native.Nat.{ℕ, _+_, _≤_}
+use Prim.Native.Nat.{ℕ, _+_, _≤_, _<_}
 use mathlib.Core.Path.{_≡_, refl, sym, _∙_, subst}
 use mathlib.Core.List.{List}
 use native.Mathlib.Omega.{arith}
@@ -15,9 +15,6 @@ use Rattle.soundness.proofs.SoundTestWalk.{behind, behind-short, slots-
 use Rattle.soundness.proofs.SendTest.{Noting, noting-start, noting-none, noting-one, noting-bad, noting-done}
 use Rattle.soundness.proofs.sound_sends.note_place.Statement.{statement}
 use Rattle.soundness.proofs.sound_sends.note_place.Tie as tie
-use Rattle.soundness.proofs.sound_sends.note_place.Reads as reads
-use Rattle.soundness.proofs.sound_sends.note_place.Lts as lts
-use Rattle.soundness.proofs.sound_sends.slot_sends.Reads as slot-sends-reads
 
 abbrev Inv-loop : tie.InvT-loop
 Inv-loop block count size live at targets₀ t₀ left₀ k₀ targets t left k =
@@ -33,69 +30,63 @@ facts c =
     let a = c .before .before .before .before .before .before .args in
     (slot-in 0 (a .size) (l .left) (l .t .now) (l .inv .0) (c .loop-test .taken), head-in 0 (a .size) (l .left) (l .t .now) (l .inv .0) (c .loop-test .taken))
 
--- src/sound_sends.rt:55:17
+-- and the table has a place for it
+room-left : (k left at count n n₀ : ℕ) → k + left ≤ at + count → 0 < left → at + count ≤ n₀ → n ≡ n₀ → k < n
+room-left k left at count n n₀ a b c e = omega arith
+
+in-table : (c : tie.In-loop Inv-loop μ-loop) → c .before .loop .k < length (c .before .loop .targets)
+in-table c =
+    let l = c .before .loop in
+    room-left (l .k) (l .left) _ _ _ _ (l .inv .4) (c .loop-test .taken) (c .before .before .before .before .before .before .pre .5) (l .inv .3)
+
 mul-t : tie.Need-mul-t Inv-loop μ-loop
 mul-t c = search needs
 
--- src/sound_sends.rt:55:17
 sub-t : tie.Need-sub-t Inv-loop μ-loop
 sub-t c = search needs
 
--- src/sound_sends.rt:55:17
 part-t-start : tie.Need-part-t-start Inv-loop μ-loop
 part-t-start c = search needs
 
--- src/sound_sends.rt:55:17
 part-t-end : tie.Need-part-t-end Inv-loop μ-loop
 part-t-end c = search needs
 
--- src/sound_sends.rt:58:5
 loop-holds : tie.Need-loop-holds Inv-loop μ-loop
 loop-holds c =
     let a = c .before .before .before .before .args in
     let pre = c .before .before .before .before .pre in
     (slots-behind 0 (a .size) (a .count) (a .block .now) (pre .2), behind-short (a .size) (a .block .now), subst (λ (r : List ℕ). All ControlFits (chop (a .count) (a .size) r)) (sym (behind (a .size) (a .block .now))) (pre .3), refl, omega arith, noting-start (now (a .live)) (a .size) (a .count) (a .at) (a .block .now) (a .targets .now))
 
--- src/sound_sends.rt:59:30
 slice-aggregate-slot-sends : tie.Need-slice-aggregate-slot-sends Inv-loop μ-loop
 slice-aggregate-slot-sends c = sym (length-take-le _ _ (let f = facts (c .before) in omega (arith, f .0, f .1)))
 
--- src/sound_sends.rt:59:13
 slot-sends-requires : tie.Need-slot-sends-requires Inv-loop μ-loop
 slot-sends-requires c κs =
     let s = c .before .before .before .before .before .before .before in
     let l = c .before .before .loop in
     (each-first ControlFits (l .left) (s .args .size) (l .t .now) (l .inv .2) (c .before .loop-test .taken), (let f = facts (c .before) in let h = s .pre .1 in omega (arith, f .0, length-take-le (s .args .size) (l .t .now) (f .0))))
 
--- src/sound_sends.rt:60:13
 mul-t-2 : tie.Need-mul-t-2 Inv-loop μ-loop
 mul-t-2 c = let f = facts (c .before .before) in omega (arith, f .0, f .1)
 
--- src/sound_sends.rt:60:13
 sub-t-2 : tie.Need-sub-t-2 Inv-loop μ-loop
 sub-t-2 c = let f = facts (c .before .before) in omega (arith, f .0, f .1)
 
--- src/sound_sends.rt:60:13
 part-t-start-2 : tie.Need-part-t-start-2 Inv-loop μ-loop
 part-t-start-2 c = let f = facts (c .before .before) in omega (arith, f .0, f .1)
 
--- src/sound_sends.rt:60:13
 part-t-end-2 : tie.Need-part-t-end-2 Inv-loop μ-loop
 part-t-end-2 c = let f = facts (c .before .before) in omega (arith, f .0, f .1)
 
--- src/sound_sends.rt:61:9
 sub-left : tie.Need-sub-left Inv-loop μ-loop
 sub-left c = search needs
 
--- src/sound_sends.rt:63:26
 enum-told : tie.Need-enum-told Inv-loop μ-loop
 enum-told c = search needs
 
--- src/sound_sends.rt:63:26
 same-length : tie.Need-same-length Inv-loop μ-loop
 same-length c = search needs
 
--- src/sound_sends.rt:63:26
 returns : tie.Need-returns Inv-loop μ-loop
 returns c =
     let a = c .before .before .before .before .before .before .before .before .before .before .before .args in
@@ -105,11 +96,9 @@ returns c =
 enum-told-2 : tie.Need-enum-told-2 Inv-loop μ-loop
 enum-told-2 c = search needs
 
--- src/sound_sends.rt:58:5
 loop-less : tie.Need-loop-less Inv-loop μ-loop
 loop-less c = search needs
 
--- src/sound_sends.rt:58:5
 loop-again : tie.Need-loop-again Inv-loop μ-loop
 loop-again c =
     let a = c .before .before .before .before .before .before .before .before .before .before .before .args in
@@ -117,31 +106,24 @@ loop-again c =
     let some = c .before .before .before .before .before .loop-test .taken in
     (slots-next 0 (a .size) (l .left) (l .t .now) (l .inv .0) some, (let s = behind-short (a .size) (l .t .now) in omega (arith, l .inv .1)), each-next ControlFits (l .left) (a .size) (l .t .now) (l .inv .2) some, l .inv .3, omega (arith, l .inv .4, some), noting-none (now (a .live)) (a .size) (a .count) (a .at) (a .block .now) (a .targets .now) (l .left) (l .k) (l .t .now) (l .targets) (l .inv .5) _ (c .before .before .before .slot-sends .ensures) some (c .enum-told2 .given .1))
 
--- src/sound_sends.rt:65:22
 enum-known-one : tie.Need-enum-known-one Inv-loop μ-loop
 enum-known-one c = search needs
 
--- src/sound_sends.rt:66:30
 add-targets : tie.Need-add-targets Inv-loop μ-loop
 add-targets c = let h = c .before .before .before .before .slot-sends .ensures .small _ (c .before .one .given .1) in let p = c .before .before .before .before .before .before .before .before .before .before .before .before .pre .4 in record { fits = omega arith }
 
--- src/sound_sends.rt:66:17
 mul-targets : tie.Need-mul-targets Inv-loop μ-loop
-mul-targets c = let p = c .before .before .before .before .before .before .before .before .before .before .before .before .pre .5 in let l = c .before .before .before .before .before .before .before .loop in omega (arith, l .inv .3, l .inv .4, c .before .before .before .before .before .before .loop-test .taken)
+mul-targets c = omega (arith, in-table (c .before .before .before .before .before .before))
 
--- src/sound_sends.rt:66:17
 slice-write-targets : tie.Need-slice-write-targets Inv-loop μ-loop
-slice-write-targets c = let p = c .before .before .before .before .before .before .before .before .before .before .before .before .pre .5 in let l = c .before .before .before .before .before .before .before .loop in omega (arith, l .inv .3, l .inv .4, c .before .before .before .before .before .before .loop-test .taken)
+slice-write-targets c = in-table (c .before .before .before .before .before .before)
 
--- src/sound_sends.rt:67:17
 add-k : tie.Need-add-k Inv-loop μ-loop
-add-k c = let p = c .before .before .before .before .before .before .before .before .before .before .before .before .pre .5 in let l = c .before .before .before .before .before .before .before .loop in omega (arith, l .inv .3, l .inv .4, c .before .before .before .before .before .before .loop-test .taken)
+add-k c = omega (arith, in-table (c .before .before .before .before .before .before))
 
--- src/sound_sends.rt:58:5
 loop-less-2 : tie.Need-loop-less-2 Inv-loop μ-loop
 loop-less-2 c = search needs
 
--- src/sound_sends.rt:58:5
 loop-again-2 : tie.Need-loop-again-2 Inv-loop μ-loop
 loop-again-2 c =
     let a = c .before .before .before .before .before .before .before .before .before .before .before .before .args in
@@ -149,11 +131,9 @@ loop-again-2 c =
     let some = c .before .before .before .before .before .before .loop-test .taken in
     (slots-next 0 (a .size) (l .left) (l .t .now) (l .inv .0) some, (let s = behind-short (a .size) (l .t .now) in omega (arith, l .inv .1)), each-next ControlFits (l .left) (a .size) (l .t .now) (l .inv .2) some, (length-set (l .targets) (l .k) _ ∙ l .inv .3), omega (arith, l .inv .4, some), noting-one (now (a .live)) (a .size) (a .count) (a .at) (a .block .now) (a .targets .now) (l .left) (l .k) (l .t .now) (l .targets) (l .inv .5) _ (c .before .before .before .before .slot-sends .ensures) some _ (c .before .one .given .1))
 
--- src/sound_sends.rt:44:1
 same-length-2 : tie.Need-same-length-2 Inv-loop μ-loop
 same-length-2 c = search needs
 
--- src/sound_sends.rt:44:1
 returns-2 : tie.Need-returns-2 Inv-loop μ-loop
 returns-2 c =
     let a = c .before .before .before .before .before .before .args in

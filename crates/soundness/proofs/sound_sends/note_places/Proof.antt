@@ -13,9 +13,6 @@ use Rattle.soundness.proofs.SoundTestWalk.{first-in, behind-short, othe
 use Rattle.soundness.proofs.SendTest.{NotingFrom, from-start, from-next, from-bad, from-done, row-in, row-next}
 use Rattle.soundness.proofs.sound_sends.note_places.Statement.{statement}
 use Rattle.soundness.proofs.sound_sends.note_places.Tie as tie
-use Rattle.soundness.proofs.sound_sends.note_places.Reads as reads
-use Rattle.soundness.proofs.sound_sends.note_places.Lts as lts
-use Rattle.soundness.proofs.sound_sends.note_place.Reads as note-place-reads
 
 abbrev Inv-loop : tie.InvT-loop
 Inv-loop blocks places len count size live targets₀ t₀ left₀ at₀ targets t left at =
@@ -28,17 +25,14 @@ abbrev μ-loop : tie.MeasureT-loop
 fits : (c : tie.In-loop Inv-loop μ-loop) → c .before .before .before .before .before .args .len ≤ length (c .before .loop .t .now)
 fits c = first-in (c .before .loop .left) (c .before .before .before .before .before .args .len) (length (c .before .loop .t .now)) (c .before .loop .inv .0) (c .loop-test .taken)
 
--- src/sound_sends.rt:90:5
 loop-holds : tie.Need-loop-holds Inv-loop μ-loop
 loop-holds c =
     let a = c .before .before .before .args in
     (c .before .before .before .pre .0, omega arith, c .before .before .before .pre .1, refl, omega arith, from-start (now (a .live)) (a .size) (a .count) (a .len) (a .places) (a .blocks .now) (a .targets .now))
 
--- src/sound_sends.rt:91:23
 slice-aggregate-note-place : tie.Need-slice-aggregate-note-place Inv-loop μ-loop
 slice-aggregate-note-place c = sym (length-take-le _ _ (fits (c .before)))
 
--- src/sound_sends.rt:91:12
 note-place-requires : tie.Need-note-place-requires Inv-loop μ-loop
 note-place-requires c κs =
     let s = c .before .before .before .before .before .before .before in
@@ -47,27 +41,21 @@ note-place-requires c κs =
     let x = each-first (ControlBlock (s .args .size) (s .args .count)) (l .left) (s .args .len) (l .t .now) (l .inv .2) some in
     (x .block .first-fits, s .pre .2, x .block .slots, x .controls, s .pre .3, row-in (l .at) (l .left) (s .args .count) _ (let h = s .pre .4 in omega (arith, l .inv .3, l .inv .4)) some)
 
--- src/sound_sends.rt:92:17
 mul-t : tie.Need-mul-t Inv-loop μ-loop
 mul-t c = omega (arith, fits (c .before .before .before .before .before .before))
 
--- src/sound_sends.rt:92:17
 sub-t : tie.Need-sub-t Inv-loop μ-loop
 sub-t c = omega (arith, fits (c .before .before .before .before .before .before))
 
--- src/sound_sends.rt:92:17
 part-t-start : tie.Need-part-t-start Inv-loop μ-loop
 part-t-start c = omega (arith, fits (c .before .before .before .before .before .before))
 
--- src/sound_sends.rt:92:17
 part-t-end : tie.Need-part-t-end Inv-loop μ-loop
 part-t-end c = omega (arith, fits (c .before .before .before .before .before .before))
 
--- src/sound_sends.rt:93:13
 sub-left : tie.Need-sub-left Inv-loop μ-loop
 sub-left c = search needs
 
--- src/sound_sends.rt:94:13
 add-at : tie.Need-add-at Inv-loop μ-loop
 add-at c =
     let s = c .before .before .before .before .before .before .before .before .before .before .before .before in
@@ -75,11 +63,9 @@ add-at c =
     let h = row-in (l .at) (l .left) (s .args .count) (length (s .args .targets .now)) (let h = s .pre .4 in omega (arith, l .inv .3, l .inv .4)) (c .before .before .before .before .before .before .before .loop-test .taken) in
     omega arith
 
--- src/sound_sends.rt:90:5
 loop-less : tie.Need-loop-less Inv-loop μ-loop
 loop-less c = search needs
 
--- src/sound_sends.rt:90:5
 loop-again : tie.Need-loop-again Inv-loop μ-loop
 loop-again c =
     let a = c .before .before .before .before .before .before .before .before .before .before .before .before .args in
@@ -87,22 +73,18 @@ loop-again c =
     let some = c .before .before .before .before .before .before .before .loop-test .taken in
     (others-lent (l .left) (a .len) (l .t .now) (l .inv .0) some, (let s = behind-short (a .len) (l .t .now) in omega (arith, l .inv .1)), each-next (ControlBlock (a .size) (a .count)) (l .left) (a .len) (l .t .now) (l .inv .2) some, search needs, row-next (l .at) (l .left) (a .count) _ (l .inv .4) some, from-next (now (a .live)) (a .size) (a .count) (a .len) (a .places) (a .blocks .now) (a .targets .now) (l .left) (l .at) (l .t .now) (l .targets) (l .inv .5) _ _ (c .before .before .before .before .note-place .ensures) some (c .before .if1 .taken))
 
--- src/sound_sends.rt:96:13
 same-length : tie.Need-same-length Inv-loop μ-loop
 same-length c = search needs
 
--- src/sound_sends.rt:96:13
 returns : tie.Need-returns Inv-loop μ-loop
 returns c =
     let a = c .before .before .before .before .before .before .before .before .before .before .before .args in
     let l = c .before .before .before .before .before .before .before .loop in
     from-bad (now (a .live)) (a .size) (a .count) (a .len) (a .places) (a .blocks .now) (a .targets .now) (l .left) (l .at) (l .t .now) (l .targets) (l .inv .5) _ _ (c .before .before .before .note-place .ensures) (c .before .before .before .before .before .before .loop-test .taken) _ (c .if1 .left)
 
--- src/sound_sends.rt:75:1
 same-length-2 : tie.Need-same-length-2 Inv-loop μ-loop
 same-length-2 c = search needs
 
--- src/sound_sends.rt:75:1
 returns-2 : tie.Need-returns-2 Inv-loop μ-loop
 returns-2 c =
     let a = c .before .before .before .before .before .args in

@@ -3,71 +3,52 @@ use borrow.Author.Needs.{needs}
 use Rattle.soundness.proofs.SendTest.{sent-none, sent-other, sent-outside, sent-dead, sent-live}
 use Rattle.soundness.proofs.sound_sends.slot_sends.Statement.{statement}
 use Rattle.soundness.proofs.sound_sends.slot_sends.Tie as tie
-use Rattle.soundness.proofs.sound_sends.slot_sends.Reads as reads
-use Rattle.soundness.proofs.sound_sends.slot_sends.Lts as lts
-use Rattle.step.proofs.work.about_to.Reads as about-to-reads
 
--- src/sound_sends.rt:26:8
 shared-slice-read-if1 : tie.Need-shared-slice-read-if1
 shared-slice-read-if1 c = search needs
 
--- src/sound_sends.rt:27:9
 returns : tie.Need-returns
 returns c = search sent-none
 
--- src/sound_sends.rt:29:55
 shared-slice-read-about-to : tie.Need-shared-slice-read-about-to
 shared-slice-read-about-to c = search needs
 
--- src/sound_sends.rt:29:55
 cast-about-to : tie.Need-cast-about-to
 cast-about-to c = search needs
 
--- src/sound_sends.rt:29:43
 add-about-to : tie.Need-add-about-to
 add-about-to c = search needs
 
--- src/sound_sends.rt:29:26
 sub-about-to : tie.Need-sub-about-to
 sub-about-to c = search needs
 
--- src/sound_sends.rt:29:26
 part-about-to-start : tie.Need-part-about-to-start
 part-about-to-start c = search needs
 
--- src/sound_sends.rt:29:26
 part-about-to-end : tie.Need-part-about-to-end
 part-about-to-end c = search needs
 
--- src/sound_sends.rt:29:9
 about-to-requires : tie.Need-about-to-requires
 about-to-requires c κs = search needs
 
--- src/sound_sends.rt:30:21
 enum-known-doing : tie.Need-enum-known-doing
 enum-known-doing c = search needs
 
--- src/sound_sends.rt:31:9
 returns-2 : tie.Need-returns-2
 returns-2 c = search sent-other
 
--- src/sound_sends.rt:33:17
 cast-place : tie.Need-cast-place
 cast-place c = search needs
 
--- src/sound_sends.rt:35:9
 returns-3 : tie.Need-returns-3
 returns-3 c = search sent-outside
 
--- src/sound_sends.rt:37:8
 shared-slice-read-if3 : tie.Need-shared-slice-read-if3
 shared-slice-read-if3 c = search needs
 
--- src/sound_sends.rt:38:9
 returns-4 : tie.Need-returns-4
 returns-4 c = search sent-live
 
--- src/sound_sends.rt:22:1
 returns-5 : tie.Need-returns-5
 returns-5 c = search sent-dead
 

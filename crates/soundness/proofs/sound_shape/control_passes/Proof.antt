@@ -1,40 +1,30 @@
+-- `control_passes` meets its contract.
 use borrow.Author.Needs.{needs}
 use Rattle.soundness.proofs.SoundTestShape.{control-passes}
 use Rattle.soundness.proofs.sound_shape.control_passes.Statement.{statement}
 use Rattle.soundness.proofs.sound_shape.control_passes.Tie as tie
-use Rattle.soundness.proofs.sound_shape.control_passes.Reads as reads
-use Rattle.soundness.proofs.sound_shape.control_passes.Lts as lts
-use Rattle.term.proofs.control.check_control.Reads as check-control-reads
 
--- src/sound_shape.rt:80:48
 shared-slice-read-check-control : tie.Need-shared-slice-read-check-control
 shared-slice-read-check-control c = search needs
 
--- src/sound_shape.rt:80:48
 cast-check-control : tie.Need-cast-check-control
 cast-check-control c = search needs
 
--- src/sound_shape.rt:80:36
 add-check-control : tie.Need-add-check-control
 add-check-control c = search needs
 
--- src/sound_shape.rt:80:19
 sub-check-control : tie.Need-sub-check-control
 sub-check-control c = search needs
 
--- src/sound_shape.rt:80:19
 part-check-control-start : tie.Need-part-check-control-start
 part-check-control-start c = search needs
 
--- src/sound_shape.rt:80:19
 part-check-control-end : tie.Need-part-check-control-end
 part-check-control-end c = search needs
 
--- src/sound_shape.rt:80:5
 check-control-requires : tie.Need-check-control-requires
 check-control-requires c κs = search needs
 
--- src/sound_shape.rt:76:1
 returns : tie.Need-returns
 returns c = search control-passes
 

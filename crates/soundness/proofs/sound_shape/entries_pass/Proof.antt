@@ -1,8 +1,9 @@
-use Prim.Native.Nat.{ℕ, _+_, _≤_, _-_}
-use mathlib.Core.Path.{_≡_, refl, sym, _∙_, ap, subst}
+-- `entries_pass` meets its contract.
+use Prim.Native.Nat.{ℕ, _+_, _≤_}
+use mathlib.Core.Path.{_≡_, sym, ap, subst}
 use mathlib.Core.List.{List}
 use native.Mathlib.Omega.{arith}
-use lib.ListN.{length, take, drop, getD}
+use lib.ListN.{length}
 use lib.Seq.{length-take-le}
 use borrow.Author.Needs.{needs}
 use Rattle.lists.specs.Lists.{All}
@@ -13,9 +14,6 @@ use Rattle.soundness.proofs.SoundTestWalk.{behind, behind-short, slots-
 use Rattle.soundness.proofs.SoundTestRun.{tests-yes, tests-no, tests-done}
 use Rattle.soundness.proofs.sound_shape.entries_pass.Statement.{statement}
 use Rattle.soundness.proofs.sound_shape.entries_pass.Tie as tie
-use Rattle.soundness.proofs.sound_shape.entries_pass.Reads as reads
-use Rattle.soundness.proofs.sound_shape.entries_pass.Lts as lts
-use Rattle.soundness.proofs.sound_shape.entry_passes.Reads as entry-passes-reads
 
 abbrev Inv-loop : tie.InvT-loop
 Inv-loop block count size places arities t₀ left₀ t left =
@@ -33,23 +31,18 @@ facts c =
     let a = c .before .before .before .before .before .args in
     (slot-in 0 (a .size) (l .left) (l .t .now) (l .inv .0) (c .loop-test .taken), head-in 0 (a .size) (l .left) (l .t .now) (l .inv .0) (c .loop-test .taken))
 
--- src/sound_shape.rt:103:17
 mul-t : tie.Need-mul-t Inv-loop μ-loop
 mul-t c = search needs
 
--- src/sound_shape.rt:103:17
 sub-t : tie.Need-sub-t Inv-loop μ-loop
 sub-t c = search needs
 
--- src/sound_shape.rt:103:17
 part-t-start : tie.Need-part-t-start Inv-loop μ-loop
 part-t-start c = search needs
 
--- src/sound_shape.rt:103:17
 part-t-end : tie.Need-part-t-end Inv-loop μ-loop
 part-t-end c = search needs
 
--- src/sound_shape.rt:105:5
 loop-holds : tie.Need-loop-holds Inv-loop μ-loop
 unfolding entriesPass
 loop-holds c =
@@ -57,11 +50,9 @@ loop-holds c =
     let pre = c .before .before .before .pre in
     (slots-behind 0 (a .size) (a .count) (a .block .now) (pre .1), behind-short (a .size) (a .block .now), subst (λ (r : List ℕ). All ControlFits (chop (a .count) (a .size) r)) (sym (behind (a .size) (a .block .now))) (pre .2), ap (λ (r : List ℕ). everyOf (entryPasses (a .places) (a .arities .now)) (chop (a .count) (a .size) r)) (sym (behind (a .size) (a .block .now))))
 
--- src/sound_shape.rt:106:25
 slice-aggregate-entry-passes : tie.Need-slice-aggregate-entry-passes Inv-loop μ-loop
 slice-aggregate-entry-passes c = sym (length-take-le _ _ (let f = facts (c .before) in omega (arith, f .0, f .1)))
 
--- src/sound_shape.rt:106:12
 entry-passes-requires : tie.Need-entry-passes-requires Inv-loop μ-loop
 entry-passes-requires c κs =
     let f = facts (c .before) in
@@ -69,31 +60,24 @@ entry-passes-requires c κs =
     let l = c .before .before .loop in
     (omega (arith, f .0, f .1, length-take-le (s .args .size) (l .t .now) (f .0)), each-first ControlFits (l .left) (s .args .size) (l .t .now) (l .inv .2) (c .before .loop-test .taken))
 
--- src/sound_shape.rt:107:17
 mul-t-2 : tie.Need-mul-t-2 Inv-loop μ-loop
 mul-t-2 c = let f = facts (c .before .before .before) in omega (arith, f .0, f .1)
 
--- src/sound_shape.rt:107:17
 sub-t-2 : tie.Need-sub-t-2 Inv-loop μ-loop
 sub-t-2 c = let f = facts (c .before .before .before) in omega (arith, f .0, f .1)
 
--- src/sound_shape.rt:107:17
 part-t-start-2 : tie.Need-part-t-start-2 Inv-loop μ-loop
 part-t-start-2 c = let f = facts (c .before .before .before) in omega (arith, f .0, f .1)
 
--- src/sound_shape.rt:107:17
 part-t-end-2 : tie.Need-part-t-end-2 Inv-loop μ-loop
 part-t-end-2 c = let f = facts (c .before .before .before) in omega (arith, f .0, f .1)
 
--- src/sound_shape.rt:108:13
 sub-left : tie.Need-sub-left Inv-loop μ-loop
 sub-left c = search needs
 
--- src/sound_shape.rt:105:5
 loop-less : tie.Need-loop-less Inv-loop μ-loop
 loop-less c = search needs
 
--- src/sound_shape.rt:105:5
 loop-again : tie.Need-loop-again Inv-loop μ-loop
 loop-again c =
     let a = c .before .before .before .before .before .before .before .before .before .args in
@@ -101,14 +85,12 @@ loop-again c =
     let some = c .before .before .before .before .loop-test .taken in
     (slots-next 0 (a .size) (l .left) (l .t .now) (l .inv .0) some, (let s = behind-short (a .size) (l .t .now) in omega (arith, l .inv .1)), each-next ControlFits (l .left) (a .size) (l .t .now) (l .inv .2) some, tests-yes (entryPasses (a .places) (a .arities .now)) _ (a .size) (l .left) (l .t .now) (l .inv .3) _ some (c .before .before .entry-passes .ensures) (c .before .if1 .taken))
 
--- src/sound_shape.rt:110:13
 returns : tie.Need-returns Inv-loop μ-loop
 returns c =
     let a = c .before .before .before .before .before .before .before .before .args in
     let l = c .before .before .before .before .loop in
     tests-no (entryPasses (a .places) (a .arities .now)) _ (a .size) (l .left) (l .t .now) (l .inv .3) _ (c .before .before .before .loop-test .taken) (c .before .entry-passes .ensures) (c .if1 .left)
 
--- src/sound_shape.rt:99:1
 returns-2 : tie.Need-returns-2 Inv-loop μ-loop
 returns-2 c =
     let a = c .before .before .before .before .before .args in

@@ -1,76 +1,57 @@
+-- `entry_shape` meets its contract.
 use borrow.Author.Needs.{needs}
 use Rattle.soundness.proofs.SoundTestShape.{entry-seq, entry-send, entry-rec, entry-spawn, entry-self, entry-check-over, entry-check, entry-none}
 use Rattle.soundness.proofs.sound_shape.entry_shape.Statement.{statement}
 use Rattle.soundness.proofs.sound_shape.entry_shape.Tie as tie
-use Rattle.soundness.proofs.sound_shape.entry_shape.Reads as reads
-use Rattle.soundness.proofs.sound_shape.entry_shape.Lts as lts
-use Rattle.soundness.proofs.sound_shape.plain.Reads as plain-reads
 
--- src/sound_shape.rt:45:16
 shared-slice-read-kind : tie.Need-shared-slice-read-kind
 shared-slice-read-kind c = search needs
 
--- src/sound_shape.rt:47:9
 plain-requires : tie.Need-plain-requires
 plain-requires c κs = search needs
 
--- src/sound_shape.rt:47:9
 returns : tie.Need-returns
 returns c = search entry-seq
 
--- src/sound_shape.rt:50:9
 plain-requires-2 : tie.Need-plain-requires-2
 plain-requires-2 c κs = search needs
 
--- src/sound_shape.rt:50:9
 returns-2 : tie.Need-returns-2
 returns-2 c = search entry-send
 
--- src/sound_shape.rt:53:16
 shared-slice-read-result : tie.Need-shared-slice-read-result
 shared-slice-read-result c = search needs
 
--- src/sound_shape.rt:53:26
 shared-slice-read-result-2 : tie.Need-shared-slice-read-result-2
 shared-slice-read-result-2 c = search needs
 
--- src/sound_shape.rt:53:9
 returns-3 : tie.Need-returns-3
 returns-3 c = search entry-rec
 
--- src/sound_shape.rt:56:16
 shared-slice-read-result-3 : tie.Need-shared-slice-read-result-3
 shared-slice-read-result-3 c = search needs
 
--- src/sound_shape.rt:56:9
 returns-4 : tie.Need-returns-4
 returns-4 c = search entry-spawn
 
--- src/sound_shape.rt:59:9
 plain-requires-3 : tie.Need-plain-requires-3
 plain-requires-3 c κs = search needs
 
--- src/sound_shape.rt:59:9
 returns-5 : tie.Need-returns-5
 returns-5 c = search entry-self
 
--- src/sound_shape.rt:62:29
 shared-slice-read-if7 : tie.Need-shared-slice-read-if7
 shared-slice-read-if7 c = search needs
 
--- src/sound_shape.rt:63:13
 returns-6 : tie.Need-returns-6
 returns-6 c = search entry-check-over
 
--- src/sound_shape.rt:65:16
 shared-slice-read-result-4 : tie.Need-shared-slice-read-result-4
 shared-slice-read-result-4 c = search needs
 
--- src/sound_shape.rt:65:9
 returns-7 : tie.Need-returns-7
 returns-7 c = search entry-check
 
--- src/sound_shape.rt:41:1
 returns-8 : tie.Need-returns-8
 returns-8 c = search entry-none
 

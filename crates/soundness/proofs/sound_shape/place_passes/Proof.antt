@@ -1,3 +1,4 @@
+-- `place_passes` meets its contract.
 use borrow.Author.Needs.{needs}
 use mathlib.Core.Path.{sym}
 use native.Mathlib.Omega.{arith}
@@ -5,49 +6,34 @@ use lib.Seq.{length-take-le}
 use Rattle.soundness.proofs.SoundTestShape.{place-free, place-shapeless, place-control, place-entries}
 use Rattle.soundness.proofs.sound_shape.place_passes.Statement.{statement}
 use Rattle.soundness.proofs.sound_shape.place_passes.Tie as tie
-use Rattle.soundness.proofs.sound_shape.place_passes.Reads as reads
-use Rattle.soundness.proofs.sound_shape.place_passes.Lts as lts
-use Rattle.soundness.proofs.sound_shape.control_passes.Reads as control-passes-reads
-use Rattle.soundness.proofs.sound_shape.entries_pass.Reads as entries-pass-reads
-use Rattle.soundness.proofs.sound_shape.present_shape.Reads as present-shape-reads
 
--- src/sound_shape.rt:121:8
 shared-slice-read-if1 : tie.Need-shared-slice-read-if1
 shared-slice-read-if1 c = search needs
 
--- src/sound_shape.rt:122:9
 returns : tie.Need-returns
 returns c = search place-free
 
--- src/sound_shape.rt:124:22
 slice-aggregate-present-shape : tie.Need-slice-aggregate-present-shape
 slice-aggregate-present-shape c = sym (length-take-le _ _ (let x = c .before .before .before .before .before .pre .block .first-fits in omega arith))
 
--- src/sound_shape.rt:124:8
 present-shape-requires : tie.Need-present-shape-requires
 present-shape-requires c κs = search needs
 
--- src/sound_shape.rt:125:27
 slice-aggregate-control-passes : tie.Need-slice-aggregate-control-passes
 slice-aggregate-control-passes c = sym (length-take-le _ _ (let x = c .before .before .before .before .before .before .before .before .pre .block .first-fits in omega arith))
 
--- src/sound_shape.rt:125:12
 control-passes-requires : tie.Need-control-passes-requires
 control-passes-requires c κs = search needs
 
--- src/sound_shape.rt:126:13
 entries-pass-requires : tie.Need-entries-pass-requires
 entries-pass-requires c κs = search needs
 
--- src/sound_shape.rt:117:1
 returns-2 : tie.Need-returns-2
 returns-2 c = search place-entries
 
--- src/sound_shape.rt:117:1
 returns-3 : tie.Need-returns-3
 returns-3 c = search place-control
 
--- src/sound_shape.rt:117:1
 returns-4 : tie.Need-returns-4
 returns-4 c = search place-shapeless
 

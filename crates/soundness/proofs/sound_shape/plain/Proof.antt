@@ -1,23 +1,18 @@
+-- `plain` meets its contract.
 use borrow.Author.Needs.{needs}
 use Rattle.soundness.proofs.SoundTestShape.{plain-number, plain-names}
 use Rattle.soundness.proofs.sound_shape.plain.Statement.{statement}
 use Rattle.soundness.proofs.sound_shape.plain.Tie as tie
-use Rattle.soundness.proofs.sound_shape.plain.Reads as reads
-use Rattle.soundness.proofs.sound_shape.plain.Lts as lts
 
--- src/sound_shape.rt:23:8
 shared-slice-read-if1 : tie.Need-shared-slice-read-if1
 shared-slice-read-if1 c = search needs
 
--- src/sound_shape.rt:24:9
 returns : tie.Need-returns
 returns c = search plain-number
 
--- src/sound_shape.rt:26:5
 shared-slice-read-result : tie.Need-shared-slice-read-result
 shared-slice-read-result c = search needs
 
--- src/sound_shape.rt:19:1
 returns-2 : tie.Need-returns-2
 returns-2 c = search plain-names
 

@@ -1,3 +1,4 @@
+-- `choose` meets its contract.
 use borrow.Author.Needs.{needs}
 use Prim.Native.Nat.{ℕ, _<_, _-_}
 use borrow.Fn.Kinds.{In}
@@ -10,7 +11,6 @@ use Rattle.term.proofs.terms.skip.Reads as skip-reads
 use Rattle.step.proofs.clause.+choose.{statement}
 use Rattle.step.proofs.clause.+choose.Tie.{close}
 use Rattle.step.proofs.RowClause.{choose-none, choose-past, choose-takes, choose-broken, choose-next}
-use native.Mathlib.Omega.{arith}
 use lib.ListN.{length}
 
 abbrev μ-choose : Measures 2 choose-kinds.ps ℕ

@@ -1,13 +1,8 @@
+-- `takes` meets its contract.
 use borrow.Author.Needs.{needs}
 use Rattle.step.proofs.clause.takes.Statement.{statement}
 use Rattle.step.proofs.clause.takes.Tie as tie
-use Rattle.step.proofs.clause.takes.Reads as reads
-use Rattle.step.proofs.clause.takes.Lts as lts
-use Rattle.step.proofs.guard.holds.Reads as holds-reads
-use Rattle.step.proofs.matching.matches.Reads as matches-reads
-use Rattle.term.proofs.terms.skip.Reads as skip-reads
 use Rattle.step.proofs.RowClause.{takes-past, takes-not, takes-holds}
-use native.Mathlib.Omega.{arith}
 
 pub takes-spec : {M : Type 1} → statement M
 takes-spec = tie.close (tie.spec

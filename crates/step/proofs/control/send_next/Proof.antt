@@ -1,12 +1,7 @@
+-- `send_next` meets its contract.
 use borrow.Author.Needs.{needs}
 use Rattle.step.proofs.control.send_next.Statement.{statement}
 use Rattle.step.proofs.control.send_next.Tie as tie
-use Rattle.step.proofs.control.send_next.Reads as reads
-use Rattle.step.proofs.control.send_next.Lts as lts
-use Rattle.step.proofs.next.with_copy.Reads as with-copy-reads
-use Rattle.step.proofs.place.find.Reads as find-reads
-use Rattle.step.proofs.step.fitted.Reads as fitted-reads
-use Rattle.term.proofs.terms.skip.Reads as skip-reads
 use Rattle.step.proofs.RowSend.{sending-past, sending-written}
 use native.Mathlib.Omega.{arith}
 use Rattle.step.proofs.RowTerms.{skip-within}

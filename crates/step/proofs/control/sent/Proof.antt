@@ -1,12 +1,8 @@
+-- `sent` meets its contract.
 use borrow.Author.Needs.{needs}
 use Rattle.step.proofs.control.sent.Statement.{statement}
 use Rattle.step.proofs.control.sent.Tie as tie
-use Rattle.step.proofs.control.sent.Reads as reads
-use Rattle.step.proofs.control.sent.Lts as lts
-use Rattle.step.proofs.place.find.Reads as find-reads
-use Rattle.term.proofs.terms.skip.Reads as skip-reads
 use Rattle.step.proofs.RowSend.{sent-past, sent-is}
-use native.Mathlib.Omega.{arith}
 
 pub sent-spec : {M : Type 1} → statement M
 sent-spec = tie.close (tie.spec

@@ -1,12 +1,8 @@
+-- `taken` meets its contract.
 use borrow.Author.Needs.{needs}
 use Rattle.step.proofs.control.taken.Statement.{statement}
 use Rattle.step.proofs.control.taken.Tie as tie
-use Rattle.step.proofs.control.taken.Reads as reads
-use Rattle.step.proofs.control.taken.Lts as lts
-use Rattle.step.proofs.place.find.Reads as find-reads
-use Rattle.step.proofs.step.receive_next.Reads as receive-next-reads
 use Rattle.step.proofs.RowBecomes.{receive-outside, receive-written}
-use native.Mathlib.Omega.{arith}
 
 pub taken-spec : {M : Type 1} → statement M
 taken-spec = tie.close (tie.spec

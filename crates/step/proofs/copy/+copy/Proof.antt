@@ -1,3 +1,4 @@
+-- `copy` meets its contract.
 use borrow.Author.Needs.{needs}
 use Prim.Native.Nat.{ℕ, _<_, _-_}
 use borrow.Fn.Kinds.{In}
@@ -12,9 +13,7 @@ use Rattle.term.proofs.tables.children.Reads as children-reads
 use Rattle.term.proofs.words.tag.Reads as tag-reads
 use Rattle.step.proofs.copy.+copy.{statement}
 use Rattle.step.proofs.copy.+copy.Tie.{close}
-use native.Mathlib.Omega.{arith}
-use lib.ListN.{length, length-set}
-use mathlib.Core.Path.{_∙_}
+use lib.ListN.{length}
 use Rattle.step.proofs.RowCopy.{copy-none, copy-past, copy-full, copy-value, copy-short, copy-integer, copy-node}
 
 abbrev μ-copy : Measures 4 copy-kinds.ps ℕ

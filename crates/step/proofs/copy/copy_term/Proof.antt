@@ -1,10 +1,7 @@
+-- `copy_term` meets its contract.
 use borrow.Author.Needs.{needs}
 use Rattle.step.proofs.copy.copy_term.Statement.{statement}
 use Rattle.step.proofs.copy.copy_term.Tie as tie
-use Rattle.step.proofs.copy.copy_term.Reads as reads
-use Rattle.step.proofs.copy.copy_term.Lts as lts
-use Rattle.step.proofs.copy.copy_words.Reads as copy-words-reads
-use Rattle.term.proofs.terms.skip.Reads as skip-reads
 use native.Mathlib.Omega.{arith}
 use Rattle.step.proofs.RowWrite.{term-past, term-written}
 use Rattle.step.proofs.RowTerms.{skip-within}

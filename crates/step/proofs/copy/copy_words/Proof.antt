@@ -1,15 +1,13 @@
+-- `copy_words` meets its contract.
 use borrow.Author.Needs.{needs}
 use Rattle.step.proofs.copy.copy_words.Statement.{statement}
 use Rattle.step.proofs.copy.copy_words.Tie as tie
-use Rattle.step.proofs.copy.copy_words.Reads as reads
-use Rattle.step.proofs.copy.copy_words.Lts as lts
-use Rattle.step.proofs.copy.put.Reads as put-reads
-use Prim.Native.Nat.{ℕ, suc, _+_, _-_, _<_, _≤_}
+use Prim.Native.Nat.{_-_, _≤_}
 use native.Mathlib.Omega.{arith}
-use mathlib.Core.Path.{_≡_, _∙_}
+use mathlib.Core.Path.{_≡_}
 use lib.ListN.{length, drop, take}
 use Rattle.step.specs.Rows.{Wrote}
-use Rattle.step.proofs.RowWrite.{wrote-none, wrote-length, words-more, words-all-written}
+use Rattle.step.proofs.RowWrite.{wrote-none, words-more, words-all-written}
 
 abbrev Inv-loop : tie.InvT-loop
 Inv-loop src from n out₀ to i₀ b₀ out i b = (i ≤ n) × (length out ≡ length out₀) × Wrote (take i (drop from src)) to out₀ out b

@@ -1,10 +1,7 @@
+-- `entry` meets its contract.
 use borrow.Author.Needs.{needs}
 use Rattle.step.proofs.copy.entry.Statement.{statement}
 use Rattle.step.proofs.copy.entry.Tie as tie
-use Rattle.step.proofs.copy.entry.Reads as reads
-use Rattle.step.proofs.copy.entry.Lts as lts
-use Rattle.term.proofs.words.k.Reads as k-reads
-use Rattle.term.proofs.words.tag.Reads as tag-reads
 use Rattle.step.proofs.RowWrite.{entry-not, entry-past, entry-is}
 use native.Mathlib.Omega.{arith}
 

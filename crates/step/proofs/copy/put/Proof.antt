@@ -1,8 +1,7 @@
+-- `put` meets its contract.
 use borrow.Author.Needs.{needs}
 use Rattle.step.proofs.copy.put.Statement.{statement}
 use Rattle.step.proofs.copy.put.Tie as tie
-use Rattle.step.proofs.copy.put.Reads as reads
-use Rattle.step.proofs.copy.put.Lts as lts
 use Rattle.step.proofs.RowWrite.{put-in, put-out}
 
 pub put-spec : {M : Type 1} → statement M

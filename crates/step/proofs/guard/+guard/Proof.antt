@@ -1,3 +1,4 @@
+-- `guard` meets its contract.
 use borrow.Author.Needs.{needs}
 use Prim.Native.Nat.{ℕ, _<_, _-_}
 use borrow.Fn.Kinds.{In}
@@ -14,7 +15,6 @@ use Rattle.term.proofs.words.tag.Reads as tag-reads
 use Rattle.step.proofs.guard.+guard.{statement}
 use Rattle.step.proofs.guard.+guard.Tie.{close}
 use Rattle.step.proofs.RowGuard.{guard-past, guard-variable, guard-value, guard-broken, guard-call}
-use native.Mathlib.Omega.{arith}
 use lib.ListN.{length}
 
 abbrev μ-guard : Measures 3 guard-kinds.ps ℕ

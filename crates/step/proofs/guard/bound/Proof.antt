@@ -1,9 +1,7 @@
+-- `bound` meets its contract.
 use borrow.Author.Needs.{needs}
 use Rattle.step.proofs.guard.bound.Statement.{statement}
 use Rattle.step.proofs.guard.bound.Tie as tie
-use Rattle.step.proofs.guard.bound.Reads as reads
-use Rattle.step.proofs.guard.bound.Lts as lts
-use Rattle.step.proofs.operand.elsewhere.Reads as elsewhere-reads
 use Rattle.step.proofs.RowGuard.{looked-past, looked-none, looked-value}
 use native.Mathlib.Omega.{arith}
 

@@ -1,9 +1,7 @@
+-- `holds` meets its contract.
 use borrow.Author.Needs.{needs}
 use Rattle.step.proofs.guard.holds.Statement.{statement}
 use Rattle.step.proofs.guard.holds.Tie as tie
-use Rattle.step.proofs.guard.holds.Reads as reads
-use Rattle.step.proofs.guard.holds.Lts as lts
-use Rattle.step.proofs.guard.guard.Reads as guard-reads
 use Rattle.step.proofs.RowGuard.{holds-short, holds-here, holds-there, holds-stuck}
 
 pub holds-spec : {M : Type 1} → statement M

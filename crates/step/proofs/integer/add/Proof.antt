@@ -1,10 +1,10 @@
+-- `add` meets its contract.
 use borrow.Author.Needs.{needs}
 use lib.IntN.{_+ℤ_}
 use Rattle.step.proofs.RowInteger.{cast-wide, wide-add, op-wide, op-fits, op-stuck, reads-fit, reads-value}
 use Rattle.step.proofs.integer.add.Statement.{statement}
 use Rattle.step.proofs.integer.add.Tie as tie
 use Rattle.step.proofs.integer.add.Reads as reads
-use Rattle.step.proofs.integer.add.Lts as lts
 
 add-in-range : tie.Need-add-in-range
 add-in-range c = search (op-wide _+ℤ_, wide-add)

@@ -1,13 +1,7 @@
+-- `compute` meets its contract.
 use borrow.Author.Needs.{needs}
 use Rattle.step.proofs.integer.compute.Statement.{statement}
 use Rattle.step.proofs.integer.compute.Tie as tie
-use Rattle.step.proofs.integer.compute.Reads as reads
-use Rattle.step.proofs.integer.compute.Lts as lts
-use Rattle.step.proofs.integer.add.Reads as add-reads
-use Rattle.step.proofs.integer.div.Reads as div-reads
-use Rattle.step.proofs.integer.mul.Reads as mul-reads
-use Rattle.step.proofs.integer.rem.Reads as rem-reads
-use Rattle.step.proofs.integer.sub.Reads as sub-reads
 use Rattle.step.proofs.RowOperand.{computes-add, computes-subtract, computes-multiply, computes-div, computes-rem, computes-none}
 
 pub compute-spec : {M : Type 1} → statement M

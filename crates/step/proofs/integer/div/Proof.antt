@@ -1,3 +1,4 @@
+-- `div` meets its contract.
 use mathlib.Core.Logic.{⊎-elim}
 use native.Mathlib.Omega.{arith}
 use borrow.Author.Tests.{eqb-true, eqb-false}
@@ -9,7 +10,6 @@ use Rattle.step.proofs.RowInteger.{zero-is, nonzero-is, quot-fits, quot
 use Rattle.step.proofs.integer.div.Statement.{statement}
 use Rattle.step.proofs.integer.div.Tie as tie
 use Rattle.step.proofs.integer.div.Reads as reads
-use Rattle.step.proofs.integer.div.Lts as lts
 
 returns : tie.Need-returns
 unfolding divided

@@ -1,10 +1,10 @@
+-- `mul` meets its contract.
 use borrow.Author.Needs.{needs}
 use lib.IntN.{_*ℤ_}
 use Rattle.step.proofs.RowInteger.{cast-wide, wide-mul, op-wide, op-fits, op-stuck, reads-fit, reads-value}
 use Rattle.step.proofs.integer.mul.Statement.{statement}
 use Rattle.step.proofs.integer.mul.Tie as tie
 use Rattle.step.proofs.integer.mul.Reads as reads
-use Rattle.step.proofs.integer.mul.Lts as lts
 
 mul-in-range : tie.Need-mul-in-range
 mul-in-range c = search (op-wide _*ℤ_, wide-mul)

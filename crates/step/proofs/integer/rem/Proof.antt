@@ -1,11 +1,11 @@
+-- `rem` meets its contract.
 use native.Mathlib.Omega.{arith}
 use lib.Signed.{quotZ, remZ}
 use Rattle.machine.specs.Operator.{divided}
-use Rattle.step.proofs.RowInteger.{zero-is, nonzero-is, quot-fits, quot-safe, rem-fits, rem-zero, reads-fit, reads-value, guarded, refused}
+use Rattle.step.proofs.RowInteger.{zero-is, nonzero-is, quot-safe, rem-fits, rem-zero, reads-fit, reads-value, guarded, refused}
 use Rattle.step.proofs.integer.rem.Statement.{statement}
 use Rattle.step.proofs.integer.rem.Tie as tie
 use Rattle.step.proofs.integer.rem.Reads as reads
-use Rattle.step.proofs.integer.rem.Lts as lts
 
 returns : tie.Need-returns
 unfolding divided

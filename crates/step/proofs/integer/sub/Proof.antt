@@ -1,10 +1,10 @@
+-- `sub` meets its contract.
 use borrow.Author.Needs.{needs}
 use lib.IntN.{_-ℤ_}
 use Rattle.step.proofs.RowInteger.{cast-wide, wide-sub, op-wide, op-fits, op-stuck, reads-fit, reads-value}
 use Rattle.step.proofs.integer.sub.Statement.{statement}
 use Rattle.step.proofs.integer.sub.Tie as tie
 use Rattle.step.proofs.integer.sub.Reads as reads
-use Rattle.step.proofs.integer.sub.Lts as lts
 
 sub-in-range : tie.Need-sub-in-range
 sub-in-range c = search (op-wide _-ℤ_, wide-sub)

@@ -1,3 +1,4 @@
+-- `value` meets its contract.
 use mathlib.Core.Path.{sym, subst, _∙_}
 use borrow.Author.Needs.{needs}
 use mir.Syntax.{w32}
@@ -6,8 +7,6 @@ use mir.ValLaws.{toZ-ofZ, toZ-fits}
 use Rattle.step.proofs.RowInteger.{signed-is, value-high}
 use Rattle.step.proofs.integer.value.Statement.{statement}
 use Rattle.step.proofs.integer.value.Tie as tie
-use Rattle.step.proofs.integer.value.Reads as reads
-use Rattle.step.proofs.integer.value.Lts as lts
 
 cast-result : tie.Need-cast-result
 cast-result c = search needs

@@ -1,4 +1,5 @@
-use mathlib.Core.Path.{_≡_, sym, subst, ap, _∙_}
+-- `word` meets its contract.
+use mathlib.Core.Path.{sym, subst, ap, _∙_}
 use Prim.Native.Nat.{_-_, _≤_}
 use native.Mathlib.Omega.{arith}
 use lib.Dec.{T}
@@ -6,12 +7,9 @@ use lib.IntN.{ℤ, natAbs}
 use lib.Signed.{nonNeg}
 use mir.Syntax.{w32}
 use mir.Val.{Fits, SFits}
-use mir.ValLaws.{toZ-ofZ}
-use Rattle.step.proofs.RowInteger.{read, negative, negative-read, negative-word, natural, fits-mag, unsigned-fits}
+use Rattle.step.proofs.RowInteger.{negative, negative-read, negative-word, natural, fits-mag, unsigned-fits}
 use Rattle.step.proofs.integer.word.Statement.{statement}
 use Rattle.step.proofs.integer.word.Tie as tie
-use Rattle.step.proofs.integer.word.Reads as reads
-use Rattle.step.proofs.integer.word.Lts as lts
 
 sub-result : tie.Need-sub-result
 sub-result c =

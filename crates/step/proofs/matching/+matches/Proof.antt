@@ -1,3 +1,4 @@
+-- `matches` meets its contract.
 use borrow.Author.Needs.{needs}
 use Prim.Native.Nat.{ℕ, _<_, _-_}
 use borrow.Fn.Kinds.{In}
@@ -11,7 +12,6 @@ use Rattle.term.proofs.words.k.Reads as k-reads
 use Rattle.term.proofs.words.tag.Reads as tag-reads
 use Rattle.step.proofs.matching.+matches.{statement}
 use Rattle.step.proofs.matching.+matches.Tie.{close}
-use native.Mathlib.Omega.{arith}
 use lib.ListN.{length, length-set}
 use mathlib.Core.Path.{_∙_}
 use Rattle.step.proofs.RowMatch.{match-none, match-past, match-past-value, match-high, match-var, match-differ, match-cut, match-cut-value, match-integers-differ, match-integers, match-nodes}

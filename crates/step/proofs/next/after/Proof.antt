@@ -1,10 +1,7 @@
+-- `after` meets its contract.
 use borrow.Author.Needs.{needs}
 use Rattle.step.proofs.next.after.Statement.{statement}
 use Rattle.step.proofs.next.after.Tie as tie
-use Rattle.step.proofs.next.after.Reads as reads
-use Rattle.step.proofs.next.after.Lts as lts
-use Rattle.step.proofs.copy.copy_words.Reads as copy-words-reads
-use Rattle.term.proofs.terms.skip.Reads as skip-reads
 use Rattle.step.proofs.RowNext.{after-written}
 use native.Mathlib.Omega.{arith}
 use Rattle.step.proofs.RowTerms.{skip-within}

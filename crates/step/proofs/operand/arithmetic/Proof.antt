@@ -1,11 +1,8 @@
+-- `arithmetic` meets its contract.
 use borrow.Author.Needs.{needs}
 use Rattle.step.proofs.operand.arithmetic.Statement.{statement}
 use Rattle.step.proofs.operand.arithmetic.Tie as tie
-use Rattle.step.proofs.operand.arithmetic.Reads as reads
-use Rattle.step.proofs.operand.arithmetic.Lts as lts
-use Rattle.step.proofs.operand.with_short.Reads as with-short-reads
 use Rattle.step.proofs.RowOperand.{first-short, first-here, first-there, first-stuck}
-use native.Mathlib.Omega.{arith}
 
 pub arithmetic-spec : {M : Type 1} → statement M
 arithmetic-spec = tie.close (tie.spec

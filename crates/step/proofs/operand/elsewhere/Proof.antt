@@ -1,9 +1,7 @@
+-- `elsewhere` meets its contract.
 use borrow.Author.Needs.{needs}
 use Rattle.step.proofs.operand.elsewhere.Statement.{statement}
 use Rattle.step.proofs.operand.elsewhere.Tie as tie
-use Rattle.step.proofs.operand.elsewhere.Reads as reads
-use Rattle.step.proofs.operand.elsewhere.Lts as lts
-use Rattle.step.proofs.operand.here.Reads as here-reads
 use Rattle.step.proofs.RowOperand.{there-short, there-here, there-there, there-stuck}
 
 pub elsewhere-spec : {M : Type 1} → statement M

@@ -1,9 +1,7 @@
+-- `here` meets its contract.
 use borrow.Author.Needs.{needs}
 use Rattle.step.proofs.operand.here.Statement.{statement}
 use Rattle.step.proofs.operand.here.Tie as tie
-use Rattle.step.proofs.operand.here.Reads as reads
-use Rattle.step.proofs.operand.here.Lts as lts
-use Rattle.term.proofs.words.tag.Reads as tag-reads
 use Rattle.step.proofs.RowOperand.{here-past, here-cons, here-tuple, here-word, here-cut, here-integer}
 
 pub here-spec : {M : Type 1} → statement M

@@ -1,10 +1,8 @@
+-- `is_stuck` meets its contract.
 use borrow.Author.Needs.{needs}
 use Rattle.step.proofs.operand.is_stuck.Statement.{statement}
 use Rattle.step.proofs.operand.is_stuck.Tie as tie
-use Rattle.step.proofs.operand.is_stuck.Reads as reads
-use Rattle.step.proofs.operand.is_stuck.Lts as lts
 use Rattle.step.proofs.RowOperand.{stuck-is, stuck-short, stuck-here, stuck-there}
-use native.Mathlib.Omega.{arith}
 
 pub is-stuck-spec : {M : Type 1} → statement M
 is-stuck-spec = tie.close (tie.spec

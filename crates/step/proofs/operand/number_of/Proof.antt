@@ -1,9 +1,7 @@
+-- `number_of` meets its contract.
 use borrow.Author.Needs.{needs}
 use Rattle.step.proofs.operand.number_of.Statement.{statement}
 use Rattle.step.proofs.operand.number_of.Tie as tie
-use Rattle.step.proofs.operand.number_of.Reads as reads
-use Rattle.step.proofs.operand.number_of.Lts as lts
-use Rattle.step.proofs.integer.word.Reads as word-reads
 use Rattle.step.proofs.RowOperand.{number-value, number-stuck}
 
 pub number-of-spec : {M : Type 1} → statement M

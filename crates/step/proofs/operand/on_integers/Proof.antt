@@ -1,12 +1,7 @@
+-- `on_integers` meets its contract.
 use borrow.Author.Needs.{needs}
 use Rattle.step.proofs.operand.on_integers.Statement.{statement}
 use Rattle.step.proofs.operand.on_integers.Tie as tie
-use Rattle.step.proofs.operand.on_integers.Reads as reads
-use Rattle.step.proofs.operand.on_integers.Lts as lts
-use Rattle.step.proofs.integer.compute.Reads as compute-reads
-use Rattle.step.proofs.integer.value.Reads as value-reads
-use Rattle.step.proofs.operand.number_of.Reads as number-of-reads
-use Rattle.step.proofs.operand.truth_of.Reads as truth-of-reads
 use Rattle.step.proofs.RowOperand.{less-gives, at-most-gives, computed-gives}
 
 pub on-integers-spec : {M : Type 1} → statement M

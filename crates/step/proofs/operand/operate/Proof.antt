@@ -1,14 +1,8 @@
+-- `operate` meets its contract.
 use borrow.Author.Needs.{needs}
 use Rattle.step.proofs.operand.operate.Statement.{statement}
 use Rattle.step.proofs.operand.operate.Tie as tie
-use Rattle.step.proofs.operand.operate.Reads as reads
-use Rattle.step.proofs.operand.operate.Lts as lts
-use Rattle.step.proofs.operand.arithmetic.Reads as arithmetic-reads
-use Rattle.step.proofs.operand.equal.Reads as equal-reads
-use Rattle.step.proofs.operand.is_stuck.Reads as is-stuck-reads
-use Rattle.step.proofs.operand.truth_of.Reads as truth-of-reads
 use Rattle.step.proofs.RowOperand.{operate-stuck, operate-stuck-second, operates-equal, operates-unequal, operates-integers}
-use native.Mathlib.Omega.{arith}
 
 pub operate-spec : {M : Type 1} → statement M
 operate-spec = tie.close (tie.spec

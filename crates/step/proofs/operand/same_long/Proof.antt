@@ -1,11 +1,8 @@
+-- `same_long` meets its contract.
 use borrow.Author.Needs.{needs}
 use Rattle.step.proofs.operand.same_long.Statement.{statement}
 use Rattle.step.proofs.operand.same_long.Tie as tie
-use Rattle.step.proofs.operand.same_long.Reads as reads
-use Rattle.step.proofs.operand.same_long.Lts as lts
-use Rattle.step.proofs.same.same.Reads as same-reads
 use Rattle.step.proofs.RowOperand.{long-past, long-here-same, long-there-same, long-no-short, long-no-stuck}
-use native.Mathlib.Omega.{arith}
 
 pub same-long-spec : {M : Type 1} → statement M
 same-long-spec = tie.close (tie.spec

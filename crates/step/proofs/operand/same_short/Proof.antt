@@ -1,10 +1,8 @@
+-- `same_short` meets its contract.
 use borrow.Author.Needs.{needs}
 use Rattle.step.proofs.operand.same_short.Statement.{statement}
 use Rattle.step.proofs.operand.same_short.Tie as tie
-use Rattle.step.proofs.operand.same_short.Reads as reads
-use Rattle.step.proofs.operand.same_short.Lts as lts
 use Rattle.step.proofs.RowOperand.{same-shorts, same-short-differs, short-no-here, short-no-there, short-no-stuck}
-use native.Mathlib.Omega.{arith}
 
 pub same-short-spec : {M : Type 1} → statement M
 same-short-spec = tie.close (tie.spec

@@ -1,8 +1,6 @@
-use borrow.Author.Needs.{needs}
+-- `truth_of` meets its contract.
 use Rattle.step.proofs.operand.truth_of.Statement.{statement}
 use Rattle.step.proofs.operand.truth_of.Tie as tie
-use Rattle.step.proofs.operand.truth_of.Reads as reads
-use Rattle.step.proofs.operand.truth_of.Lts as lts
 use Rattle.step.proofs.RowOperand.{truth-true, truth-false}
 
 pub truth-of-spec : {M : Type 1} → statement M

@@ -1,11 +1,8 @@
+-- `with_short` meets its contract.
 use borrow.Author.Needs.{needs}
 use Rattle.step.proofs.operand.with_short.Statement.{statement}
 use Rattle.step.proofs.operand.with_short.Tie as tie
-use Rattle.step.proofs.operand.with_short.Reads as reads
-use Rattle.step.proofs.operand.with_short.Lts as lts
-use Rattle.step.proofs.operand.on_integers.Reads as on-integers-reads
 use Rattle.step.proofs.RowOperand.{no-integer-short, second-no-integer, both-integers, second-here, second-there, second-stuck}
-use native.Mathlib.Omega.{arith}
 
 pub with-short-spec : {M : Type 1} → statement M
 with-short-spec = tie.close (tie.spec

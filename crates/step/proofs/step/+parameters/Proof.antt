@@ -1,5 +1,6 @@
+-- `parameters` meets its contract.
 use borrow.Author.Needs.{needs}
-use Prim.Native.Nat.{ℕ, _<_, _-_, _+_}
+use Prim.Native.Nat.{ℕ, _<_}
 use borrow.Fn.Kinds.{In}
 use borrow.Fn.PlainCycle.{Measures, is, falls, and}
 use Rattle.step.proofs.step.parameters.Reads as parameters
@@ -9,9 +10,6 @@ use Rattle.term.proofs.terms.skip.Reads as skip-reads
 use Rattle.step.proofs.step.+parameters.{statement}
 use Rattle.step.proofs.step.+parameters.Tie.{close}
 use Rattle.step.proofs.RowApply.{parameters-none, parameters-past, parameters-high, parameters-more}
-use native.Mathlib.Omega.{arith}
-use lib.ListN.{length, length-set}
-use mathlib.Core.Path.{_∙_}
 
 abbrev μ-parameters : Measures 2 parameters-kinds.ps ℕ
 μ-parameters κs a = a .1 .1 .0

@@ -1,11 +1,7 @@
+-- `clause_next` meets its contract.
 use borrow.Author.Needs.{needs}
 use Rattle.step.proofs.step.clause_next.Statement.{statement}
 use Rattle.step.proofs.step.clause_next.Tie as tie
-use Rattle.step.proofs.step.clause_next.Reads as reads
-use Rattle.step.proofs.step.clause_next.Lts as lts
-use Rattle.step.proofs.matching.matches.Reads as matches-reads
-use Rattle.step.proofs.next.with_copy.Reads as with-copy-reads
-use Rattle.term.proofs.terms.skip.Reads as skip-reads
 use Rattle.step.proofs.RowStep.{clause-past, clause-written}
 use native.Mathlib.Omega.{arith}
 use Rattle.step.proofs.RowTerms.{skip-within}

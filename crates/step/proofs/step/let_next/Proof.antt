@@ -1,12 +1,7 @@
+-- `let_next` meets its contract.
 use borrow.Author.Needs.{needs}
 use Rattle.step.proofs.step.let_next.Statement.{statement}
 use Rattle.step.proofs.step.let_next.Tie as tie
-use Rattle.step.proofs.step.let_next.Reads as reads
-use Rattle.step.proofs.step.let_next.Lts as lts
-use Rattle.step.proofs.next.with_copy.Reads as with-copy-reads
-use Rattle.step.proofs.step.fitted.Reads as fitted-reads
-use Rattle.term.proofs.terms.skip.Reads as skip-reads
-use Rattle.term.proofs.words.k.Reads as k-reads
 use Rattle.step.proofs.RowStep.{let-past, let-high, let-written}
 use native.Mathlib.Omega.{arith}
 use Rattle.step.proofs.RowTerms.{skip-within}

@@ -1,11 +1,8 @@
+-- `call_doing` meets its contract.
 use borrow.Author.Needs.{needs}
 use Rattle.step.proofs.work.call_doing.Statement.{statement}
 use Rattle.step.proofs.work.call_doing.Tie as tie
-use Rattle.step.proofs.work.call_doing.Reads as reads
-use Rattle.step.proofs.work.call_doing.Lts as lts
-use Rattle.step.proofs.step.called.Reads as called-reads
 use Rattle.step.proofs.RowWork.{doing-stuck, doing-short, doing-here, doing-there}
-use native.Mathlib.Omega.{arith}
 
 pub call-doing-spec : {M : Type 1} → statement M
 call-doing-spec = tie.close (tie.spec

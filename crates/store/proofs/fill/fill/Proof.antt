@@ -1,3 +1,4 @@
+-- `fill` meets its contract.
 use Prim.Native.Nat.{_≤_, _-_}
 use mathlib.Core.Path.{_≡_, sym, _∙_}
 use mathlib.Core.List.{_++_, append-nil}
@@ -10,9 +11,6 @@ use Rattle.lists.proofs.Fill.{length-fill, getD-fill}
 use Rattle.store.proofs.ZerosLaws.{written-next}
 use Rattle.store.proofs.fill.fill.Statement.{statement}
 use Rattle.store.proofs.fill.fill.Tie as tie
-use Rattle.store.proofs.fill.fill.Reads as reads
-use Rattle.store.proofs.fill.fill.Lts as lts
-use Rattle.store.proofs.fill.word_or_zero.Reads as word-or-zero-reads
 
 abbrev Inv-loop : tie.InvT-loop
 Inv-loop room₀ row i₀ room i = (i ≤ length room₀) × (length room ≡ length room₀) × (room ≡ take i (fillTo (length room₀) 0 row) ++ drop i room₀)

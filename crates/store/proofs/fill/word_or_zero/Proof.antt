@@ -1,11 +1,10 @@
+-- `word_or_zero` meets its contract.
 use mathlib.Core.Path.{sym}
 use native.Mathlib.Omega.{arith}
 use lib.ListN.{List·getD-eq-default}
 use borrow.Author.Needs.{needs}
 use Rattle.store.proofs.fill.word_or_zero.Statement.{statement}
 use Rattle.store.proofs.fill.word_or_zero.Tie as tie
-use Rattle.store.proofs.fill.word_or_zero.Reads as reads
-use Rattle.store.proofs.fill.word_or_zero.Lts as lts
 
 mul-result : tie.Need-mul-result
 mul-result c = search needs

@@ -1,3 +1,4 @@
+-- `block_size` meets its contract.
 use Rattle.store.proofs.SoundStates.{sizes-in}
 use native.Mathlib.Omega.{arith}
 use Rattle.store.proofs.LayoutLaws.{block-most}
@@ -6,9 +7,6 @@ use Prim.Native.Nat.{ℕ, _+_, _*_}
 use borrow.Author.Needs.{needs}
 use Rattle.store.proofs.layout.block_size.Statement.{statement}
 use Rattle.store.proofs.layout.block_size.Tie as tie
-use Rattle.store.proofs.layout.block_size.Reads as reads
-use Rattle.store.proofs.layout.block_size.Lts as lts
-use Rattle.store.proofs.layout.slot_size.Reads as slot-size-reads
 
 add-result : tie.Need-add-result
 add-result c = omega (arith, sizes-in _ (c .pre) .entries-high)

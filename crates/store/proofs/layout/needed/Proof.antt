@@ -1,3 +1,4 @@
+-- `needed` meets its contract.
 use mathlib.Core.Path.{ap}
 use Prim.Native.Nat.{ℕ, _*_}
 use native.Mathlib.Omega.{arith}
@@ -5,9 +6,6 @@ use Rattle.store.proofs.LayoutLaws.{blocks-most}
 use borrow.Author.Needs.{needs}
 use Rattle.store.proofs.layout.needed.Statement.{statement}
 use Rattle.store.proofs.layout.needed.Tie as tie
-use Rattle.store.proofs.layout.needed.Reads as reads
-use Rattle.store.proofs.layout.needed.Lts as lts
-use Rattle.store.proofs.layout.block_size.Reads as block-size-reads
 
 block-size-requires : tie.Need-block-size-requires
 block-size-requires c κs = search needs

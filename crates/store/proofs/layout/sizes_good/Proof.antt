@@ -1,9 +1,8 @@
+-- `sizes_good` meets its contract.
 use native.Mathlib.Omega.{arith}
 use Rattle.store.proofs.LayoutLaws.{not-good, last-size}
 use Rattle.store.proofs.layout.sizes_good.Statement.{statement}
 use Rattle.store.proofs.layout.sizes_good.Tie as tie
-use Rattle.store.proofs.layout.sizes_good.Reads as reads
-use Rattle.store.proofs.layout.sizes_good.Lts as lts
 
 returns : tie.Need-returns
 returns c = not-good _ (λ x. omega arith)

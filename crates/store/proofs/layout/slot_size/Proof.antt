@@ -1,10 +1,9 @@
+-- `slot_size` meets its contract.
 use native.Mathlib.Omega.{arith}
 use Rattle.store.proofs.LayoutLaws.{names-most, slot-most}
 use borrow.Author.Needs.{needs}
 use Rattle.store.proofs.layout.slot_size.Statement.{statement}
 use Rattle.store.proofs.layout.slot_size.Tie as tie
-use Rattle.store.proofs.layout.slot_size.Reads as reads
-use Rattle.store.proofs.layout.slot_size.Lts as lts
 
 mul-result : tie.Need-mul-result
 mul-result c = omega (arith, names-most _ (c .pre))

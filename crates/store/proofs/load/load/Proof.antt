@@ -1,3 +1,4 @@
+-- `load` meets its contract.
 use native.Mathlib.Omega.{arith}
 use Rattle.store.proofs.WellTestStore.{good-of}
 use Rattle.store.proofs.LoadCodeWords.{load-writes}
@@ -6,13 +7,6 @@ use Rattle.store.specs.Sizing.{sizesOf}
 use borrow.Author.Needs.{needs}
 use Rattle.store.proofs.load.load.Statement.{statement}
 use Rattle.store.proofs.load.load.Tie as tie
-use Rattle.store.proofs.load.load.Reads as reads
-use Rattle.store.proofs.load.load.Lts as lts
-use Rattle.store.proofs.fill.fill.Reads as fill-reads
-use Rattle.store.proofs.layout.needed.Reads as needed-reads
-use Rattle.store.proofs.layout.sizes_good.Reads as sizes-good-reads
-use Rattle.term.proofs.module.check_module.Reads as check-module-reads
-use Rattle.term.proofs.words.word_of.Reads as word-of-reads
 
 sizes-good-requires : tie.Need-sizes-good-requires
 sizes-good-requires c κs = search needs

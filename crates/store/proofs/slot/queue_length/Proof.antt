@@ -1,9 +1,8 @@
+-- `queue_length` meets its contract.
 use native.Mathlib.Omega.{arith}
 use borrow.Author.Needs.{needs}
 use Rattle.store.proofs.slot.queue_length.Statement.{statement}
 use Rattle.store.proofs.slot.queue_length.Tie as tie
-use Rattle.store.proofs.slot.queue_length.Reads as reads
-use Rattle.store.proofs.slot.queue_length.Lts as lts
 
 shared-slice-read-result : tie.Need-shared-slice-read-result
 shared-slice-read-result c = search needs

@@ -1,3 +1,4 @@
+-- `slot_start` meets its contract.
 use mathlib.Core.Path.{ap}
 use Prim.Native.Nat.{ℕ, _*_}
 use Rattle.store.proofs.LayoutLaws.{blocks-most, slot-within}
@@ -5,10 +6,6 @@ use native.Mathlib.Omega.{arith}
 use borrow.Author.Needs.{needs}
 use Rattle.store.proofs.slot.slot_start.Statement.{statement}
 use Rattle.store.proofs.slot.slot_start.Tie as tie
-use Rattle.store.proofs.slot.slot_start.Reads as reads
-use Rattle.store.proofs.slot.slot_start.Lts as lts
-use Rattle.store.proofs.layout.block_size.Reads as block-size-reads
-use Rattle.store.proofs.layout.slot_size.Reads as slot-size-reads
 
 block-size-requires : tie.Need-block-size-requires
 block-size-requires c κs = search needs

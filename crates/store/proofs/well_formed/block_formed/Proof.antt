@@ -1,3 +1,4 @@
+-- `block_formed` meets its contract.
 use Prim.Native.Nat.{_-_, _≤_}
 use mathlib.Core.Path.{_∙_}
 use lib.Seq.{length-take-le}
@@ -10,11 +11,6 @@ use Rattle.store.proofs.LayoutLaws.{slot-most}
 use Rattle.store.proofs.WellTestBlock.{SlotsLeft, left-start, left-done, left-free, left-bad, left-next, first-within}
 use Rattle.store.proofs.well_formed.block_formed.Statement.{statement}
 use Rattle.store.proofs.well_formed.block_formed.Tie as tie
-use Rattle.store.proofs.well_formed.block_formed.Reads as reads
-use Rattle.store.proofs.well_formed.block_formed.Lts as lts
-use Rattle.store.proofs.layout.slot_size.Reads as slot-size-reads
-use Rattle.store.proofs.well_formed.slot_formed.Reads as slot-formed-reads
-use Rattle.store.proofs.zeros.zeros.Reads as zeros-reads
 
 abbrev Inv-loop : tie.InvT-loop
 Inv-loop block places entries words size rest₀ left₀ rest left = SlotsLeft (sizesOf places entries words) block rest left

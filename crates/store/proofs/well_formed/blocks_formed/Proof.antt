@@ -1,3 +1,4 @@
+-- `blocks_formed` meets its contract.
 use Prim.Native.Nat.{ℕ, _+_, _-_, _*_, _≤_, _<_}
 use native.Mathlib.Omega.{arith}
 use lib.ListN.{length}
@@ -6,10 +7,6 @@ use Rattle.store.specs.Sizing.{sizesOf}
 use Rattle.store.proofs.WellTestStore.{WellAt, block-inside, block-near, lent-long, blocks-bad, blocks-next, blocks-done}
 use Rattle.store.proofs.well_formed.blocks_formed.Statement.{statement}
 use Rattle.store.proofs.well_formed.blocks_formed.Tie as tie
-use Rattle.store.proofs.well_formed.blocks_formed.Reads as reads
-use Rattle.store.proofs.well_formed.blocks_formed.Lts as lts
-use Rattle.store.proofs.layout.block_size.Reads as block-size-reads
-use Rattle.store.proofs.well_formed.block_formed.Reads as block-formed-reads
 
 abbrev Inv-loop : tie.InvT-loop
 Inv-loop store places entries words size p₀ p = (p ≤ places) × ((q : ℕ) → q < p → WellAt (sizesOf places entries words) store q)

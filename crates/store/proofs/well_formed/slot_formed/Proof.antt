@@ -1,12 +1,8 @@
+-- `slot_formed` meets its contract.
 use Rattle.store.proofs.WellTestSlot.{slot-no-3, slot-no-head, slot-no-control, slot-no-names, slot-no-control-zeros, slot-left}
 use borrow.Author.Needs.{needs}
 use Rattle.store.proofs.well_formed.slot_formed.Statement.{statement}
 use Rattle.store.proofs.well_formed.slot_formed.Tie as tie
-use Rattle.store.proofs.well_formed.slot_formed.Reads as reads
-use Rattle.store.proofs.well_formed.slot_formed.Lts as lts
-use Rattle.store.proofs.slot.control_length.Reads as control-length-reads
-use Rattle.store.proofs.slot.queue_length.Reads as queue-length-reads
-use Rattle.store.proofs.zeros.zeros.Reads as zeros-reads
 
 shared-slice-read-if1 : tie.Need-shared-slice-read-if1
 shared-slice-read-if1 c = search needs

@@ -1,14 +1,9 @@
+-- `well_formed` meets its contract.
 use native.Mathlib.Omega.{arith}
 use Rattle.store.proofs.WellTestStore.{good-of, store-short, store-sizes, store-needs, store-module, store-zeros, store-left}
 use borrow.Author.Needs.{needs}
 use Rattle.store.proofs.well_formed.well_formed.Statement.{statement}
 use Rattle.store.proofs.well_formed.well_formed.Tie as tie
-use Rattle.store.proofs.well_formed.well_formed.Reads as reads
-use Rattle.store.proofs.well_formed.well_formed.Lts as lts
-use Rattle.store.proofs.layout.needed.Reads as needed-reads
-use Rattle.store.proofs.layout.sizes_good.Reads as sizes-good-reads
-use Rattle.store.proofs.well_formed.blocks_formed.Reads as blocks-formed-reads
-use Rattle.store.proofs.zeros.zeros.Reads as zeros-reads
 
 returns : tie.Need-returns
 returns c = search store-short

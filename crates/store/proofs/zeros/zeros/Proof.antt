@@ -9,8 +9,6 @@ use Rattle.lists.proofs.Decides.{yes-to, by}
 use Rattle.store.proofs.ZerosLaws.{ZerosBelow, zeros-all, zeros-each, met-other, met-zero}
 use Rattle.store.proofs.zeros.zeros.Statement.{statement}
 use Rattle.store.proofs.zeros.zeros.Tie as tie
-use Rattle.store.proofs.zeros.zeros.Reads as reads
-use Rattle.store.proofs.zeros.zeros.Lts as lts
 
 -- `all` tells whether the words met so far are zeros
 abbrev Inv-loop : tie.InvT-loop

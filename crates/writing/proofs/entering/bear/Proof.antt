@@ -1,15 +1,10 @@
+-- `bear` meets its contract.
 use native.Mathlib.Omega.{arith}
 use Rattle.writing.proofs.PostLaws.{no-entry}
 use Rattle.writing.proofs.EnterLaws.{growing-place, growing-index, count-small, grow-room, spawning-place, spawn-small, begin-room, bear-leads}
 use borrow.Author.Needs.{needs}
 use Rattle.writing.proofs.entering.bear.Statement.{statement}
 use Rattle.writing.proofs.entering.bear.Tie as tie
-use Rattle.writing.proofs.entering.bear.Reads as reads
-use Rattle.writing.proofs.entering.bear.Lts as lts
-use Rattle.reading.proofs.state.entry_count.Reads as entry-count-reads
-use Rattle.writing.proofs.entering.grow.Reads as grow-reads
-use Rattle.writing.proofs.slots.begin.Reads as begin-reads
-use Rattle.writing.proofs.spans.locate.Reads as locate-reads
 
 entry-count-requires : tie.Need-entry-count-requires
 entry-count-requires c κs = let S = c .before .before .before .before in (S .pre .0, growing-place _ _ _ (S .pre .1))

@@ -1,11 +1,8 @@
+-- `grow` meets its contract.
 use Rattle.writing.proofs.SlotCode.{grow-written}
 use borrow.Author.Needs.{needs}
 use Rattle.writing.proofs.entering.grow.Statement.{statement}
 use Rattle.writing.proofs.entering.grow.Tie as tie
-use Rattle.writing.proofs.entering.grow.Reads as reads
-use Rattle.writing.proofs.entering.grow.Lts as lts
-use Rattle.writing.proofs.slots.copy_slot.Reads as copy-slot-reads
-use Rattle.writing.proofs.slots.set_control.Reads as set-control-reads
 
 add-copy-slot : tie.Need-add-copy-slot
 add-copy-slot c = search needs

@@ -1,14 +1,10 @@
+-- `receive` meets its contract.
 use native.Mathlib.Omega.{arith}
 use Rattle.writing.proofs.PostLaws.{no-entry}
 use Rattle.writing.proofs.EnterLaws.{growing-place, growing-index, count-small, take-room, receive-leads}
 use borrow.Author.Needs.{needs}
 use Rattle.writing.proofs.entering.receive.Statement.{statement}
 use Rattle.writing.proofs.entering.receive.Tie as tie
-use Rattle.writing.proofs.entering.receive.Reads as reads
-use Rattle.writing.proofs.entering.receive.Lts as lts
-use Rattle.reading.proofs.state.entry_count.Reads as entry-count-reads
-use Rattle.writing.proofs.entering.take.Reads as take-reads
-use Rattle.writing.proofs.spans.locate.Reads as locate-reads
 
 entry-count-requires : tie.Need-entry-count-requires
 entry-count-requires c κs = let S = c .before .before .before in (S .pre .0, growing-place _ _ _ (S .pre .1))

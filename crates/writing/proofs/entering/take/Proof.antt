@@ -1,11 +1,8 @@
+-- `take` meets its contract.
 use Rattle.writing.proofs.SlotCode.{take-in, take-written}
 use borrow.Author.Needs.{needs}
 use Rattle.writing.proofs.entering.take.Statement.{statement}
 use Rattle.writing.proofs.entering.take.Tie as tie
-use Rattle.writing.proofs.entering.take.Reads as reads
-use Rattle.writing.proofs.entering.take.Lts as lts
-use Rattle.writing.proofs.entering.take_out.Reads as take-out-reads
-use Rattle.writing.proofs.slots.copy_slot.Reads as copy-slot-reads
 
 add-at : tie.Need-add-at
 add-at c = search needs

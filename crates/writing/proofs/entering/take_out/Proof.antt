@@ -1,12 +1,9 @@
+-- `take_out` meets its contract.
 use mathlib.Core.Path.{_∙_, ap}
 use Rattle.writing.specs.Slots.{controlled}
 use borrow.Author.Needs.{needs}
 use Rattle.writing.proofs.entering.take_out.Statement.{statement}
 use Rattle.writing.proofs.entering.take_out.Tie as tie
-use Rattle.writing.proofs.entering.take_out.Reads as reads
-use Rattle.writing.proofs.entering.take_out.Lts as lts
-use Rattle.writing.proofs.slots.drop_name.Reads as drop-name-reads
-use Rattle.writing.proofs.slots.set_control.Reads as set-control-reads
 
 drop-name-requires : tie.Need-drop-name-requires
 drop-name-requires c κs = search needs

@@ -1,11 +1,8 @@
+-- `post` meets its contract.
 use Rattle.writing.proofs.PostLaws.{posting-place, no-entry, post-room, post-leads}
 use borrow.Author.Needs.{needs}
 use Rattle.writing.proofs.posting.post.Statement.{statement}
 use Rattle.writing.proofs.posting.post.Tie as tie
-use Rattle.writing.proofs.posting.post.Reads as reads
-use Rattle.writing.proofs.posting.post.Lts as lts
-use Rattle.writing.proofs.slots.push.Reads as push-reads
-use Rattle.writing.proofs.spans.locate.Reads as locate-reads
 
 locate-requires : tie.Need-locate-requires
 locate-requires c κs = (c .before .before .pre .0, posting-place _ _ (c .before .before .pre .1), no-entry _)

@@ -1,11 +1,8 @@
+-- `unpost` meets its contract.
 use Rattle.writing.proofs.PostLaws.{taking-place, no-entry, unpost-room, unpost-leads}
 use borrow.Author.Needs.{needs}
 use Rattle.writing.proofs.posting.unpost.Statement.{statement}
 use Rattle.writing.proofs.posting.unpost.Tie as tie
-use Rattle.writing.proofs.posting.unpost.Reads as reads
-use Rattle.writing.proofs.posting.unpost.Lts as lts
-use Rattle.writing.proofs.posting.drop_newest.Reads as drop-newest-reads
-use Rattle.writing.proofs.spans.locate.Reads as locate-reads
 
 locate-requires : tie.Need-locate-requires
 locate-requires c κs = (c .before .before .pre .0, taking-place _ _ (c .before .before .pre .1), no-entry _)

@@ -1,12 +1,10 @@
+-- `begin` meets its contract.
 use mathlib.Core.Path.{_∙_}
 use lib.ListN.{length-set}
 use Rattle.writing.specs.Slots.{begun}
 use borrow.Author.Needs.{needs}
 use Rattle.writing.proofs.slots.begin.Statement.{statement}
 use Rattle.writing.proofs.slots.begin.Tie as tie
-use Rattle.writing.proofs.slots.begin.Reads as reads
-use Rattle.writing.proofs.slots.begin.Lts as lts
-use Rattle.writing.proofs.slots.set_control.Reads as set-control-reads
 
 slice-write-slot : tie.Need-slice-write-slot
 slice-write-slot c = search needs

@@ -1,10 +1,8 @@
+-- `clear` meets its contract.
 use Rattle.writing.proofs.SlotCode.{zero-filled}
 use borrow.Author.Needs.{needs}
 use Rattle.writing.proofs.slots.clear.Statement.{statement}
 use Rattle.writing.proofs.slots.clear.Tie as tie
-use Rattle.writing.proofs.slots.clear.Reads as reads
-use Rattle.writing.proofs.slots.clear.Lts as lts
-use Rattle.store.proofs.fill.fill.Reads as fill-reads
 
 slice-aggregate-fill : tie.Need-slice-aggregate-fill
 slice-aggregate-fill c = search needs

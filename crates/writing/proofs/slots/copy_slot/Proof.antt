@@ -1,12 +1,10 @@
+-- `copy_slot` meets its contract.
 use mathlib.Core.Path.{refl}
 use Rattle.writing.specs.Slots.{headed}
 use Rattle.writing.proofs.SlotCode.{copy-written}
 use borrow.Author.Needs.{needs}
 use Rattle.writing.proofs.slots.copy_slot.Statement.{statement}
 use Rattle.writing.proofs.slots.copy_slot.Tie as tie
-use Rattle.writing.proofs.slots.copy_slot.Reads as reads
-use Rattle.writing.proofs.slots.copy_slot.Lts as lts
-use Rattle.store.proofs.fill.fill.Reads as fill-reads
 
 add-from-end : tie.Need-add-from-end
 add-from-end c = search needs

@@ -1,11 +1,9 @@
+-- `drop_name` meets its contract.
 use mathlib.Core.Path.{refl}
 use Rattle.writing.proofs.SlotCode.{gap-written}
 use borrow.Author.Needs.{needs}
 use Rattle.writing.proofs.slots.drop_name.Statement.{statement}
 use Rattle.writing.proofs.slots.drop_name.Tie as tie
-use Rattle.writing.proofs.slots.drop_name.Reads as reads
-use Rattle.writing.proofs.slots.drop_name.Lts as lts
-use Rattle.store.proofs.fill.fill.Reads as fill-reads
 
 slice-read-count : tie.Need-slice-read-count
 slice-read-count c = search needs

@@ -1,11 +1,10 @@
+-- `push` meets its contract.
 use native.Mathlib.Omega.{arith}
 use lib.ListN.{length-set}
 use Rattle.writing.specs.Slots.{pushed}
 use borrow.Author.Needs.{needs}
 use Rattle.writing.proofs.slots.push.Statement.{statement}
 use Rattle.writing.proofs.slots.push.Tie as tie
-use Rattle.writing.proofs.slots.push.Reads as reads
-use Rattle.writing.proofs.slots.push.Lts as lts
 
 slice-read-count : tie.Need-slice-read-count
 slice-read-count c = search needs

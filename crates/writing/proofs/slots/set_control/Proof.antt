@@ -1,12 +1,10 @@
+-- `set_control` meets its contract.
 use Prim.Native.Nat.{_+_, _-_}
 use lib.ListN.{length}
 use Rattle.writing.proofs.SlotCode.{control-written, run-same}
 use borrow.Author.Needs.{needs}
 use Rattle.writing.proofs.slots.set_control.Statement.{statement}
 use Rattle.writing.proofs.slots.set_control.Tie as tie
-use Rattle.writing.proofs.slots.set_control.Reads as reads
-use Rattle.writing.proofs.slots.set_control.Lts as lts
-use Rattle.store.proofs.fill.fill.Reads as fill-reads
 
 cast-slot : tie.Need-cast-slot
 cast-slot c = search needs

@@ -1,12 +1,9 @@
+-- `locate` meets its contract.
 use native.Mathlib.Omega.{arith}
 use Rattle.reading.proofs.Holding.{head-in, good-read, place-read, index-read, slot-low}
 use Rattle.writing.proofs.SpanLaws.{located}
 use Rattle.writing.proofs.spans.locate.Statement.{statement}
 use Rattle.writing.proofs.spans.locate.Tie as tie
-use Rattle.writing.proofs.spans.locate.Reads as reads
-use Rattle.writing.proofs.spans.locate.Lts as lts
-use Rattle.store.proofs.layout.slot_size.Reads as slot-size-reads
-use Rattle.store.proofs.slot.slot_start.Reads as slot-start-reads
 
 shared-slice-read-places : tie.Need-shared-slice-read-places
 shared-slice-read-places c = omega (arith, head-in _ (c .before .before .pre .0))

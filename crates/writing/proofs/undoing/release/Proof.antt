@@ -1,11 +1,8 @@
+-- `release` meets its contract.
 use Rattle.writing.proofs.SlotCode.{release-written}
 use borrow.Author.Needs.{needs}
 use Rattle.writing.proofs.undoing.release.Statement.{statement}
 use Rattle.writing.proofs.undoing.release.Tie as tie
-use Rattle.writing.proofs.undoing.release.Reads as reads
-use Rattle.writing.proofs.undoing.release.Lts as lts
-use Rattle.writing.proofs.slots.clear.Reads as clear-reads
-use Rattle.writing.proofs.slots.copy_slot.Reads as copy-slot-reads
 
 add-from : tie.Need-add-from
 add-from c = search needs

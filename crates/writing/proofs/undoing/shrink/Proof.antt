@@ -1,11 +1,8 @@
+-- `shrink` meets its contract.
 use Rattle.writing.proofs.SlotCode.{shrink-written}
 use borrow.Author.Needs.{needs}
 use Rattle.writing.proofs.undoing.shrink.Statement.{statement}
 use Rattle.writing.proofs.undoing.shrink.Tie as tie
-use Rattle.writing.proofs.undoing.shrink.Reads as reads
-use Rattle.writing.proofs.undoing.shrink.Lts as lts
-use Rattle.writing.proofs.slots.clear.Reads as clear-reads
-use Rattle.writing.proofs.slots.copy_slot.Reads as copy-slot-reads
 
 add-from : tie.Need-add-from
 add-from c = search needs

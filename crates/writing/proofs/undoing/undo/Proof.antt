@@ -1,3 +1,4 @@
+-- `undo` meets its contract.
 use native.Mathlib.Omega.{arith}
 use Rattle.writing.proofs.PostLaws.{no-entry}
 use Rattle.writing.proofs.EnterLaws.{two-slots}
@@ -5,15 +6,6 @@ use Rattle.writing.proofs.UndoLaws.{undoing-place, newest-index, some-e
 use borrow.Author.Needs.{needs}
 use Rattle.writing.proofs.undoing.undo.Statement.{statement}
 use Rattle.writing.proofs.undoing.undo.Tie as tie
-use Rattle.writing.proofs.undoing.undo.Reads as reads
-use Rattle.writing.proofs.undoing.undo.Lts as lts
-use Rattle.reading.proofs.entries.kind.Reads as kind-reads
-use Rattle.reading.proofs.entries.number.Reads as number-reads
-use Rattle.reading.proofs.state.entry_count.Reads as entry-count-reads
-use Rattle.writing.proofs.slots.clear.Reads as clear-reads
-use Rattle.writing.proofs.spans.locate.Reads as locate-reads
-use Rattle.writing.proofs.undoing.release.Reads as release-reads
-use Rattle.writing.proofs.undoing.shrink.Reads as shrink-reads
 
 entry-count-requires : tie.Need-entry-count-requires
 entry-count-requires c κs = let S = c .before .before in (S .pre .0, undoing-place _ _ (S .pre .1))
