@@ -3,11 +3,11 @@ use Prim.Native.Nat.{ℕ, zero, suc, _+_, _≤_, _<_}
 use native.Mathlib.Decide.{ℕ-discrete}
 use mathlib.Core.Logic.{inl, inr}
 use mathlib.Core.Path.{_≡_, refl, sym, ap, _∙_}
-use mathlib.Core.Bool.{Bool, true, false, cond, not, _&&_, _||_}
-use mathlib.Core.List.{List, [], _∷_, _++_, append-nil}
+use mathlib.Core.Bool.{Bool, true, false, not, _&&_, _||_}
+use mathlib.Core.List.{List, [], _∷_, append-nil}
 use native.Mathlib.Omega.{arith}
 use lib.Dec.{eqb, leb, ltb}
-use lib.ListN.{getD, replicate}
+use lib.ListN.{replicate}
 use Rattle.lists.specs.Lists.{member}
 use Rattle.lists.proofs.Tests.{eqb-of, eqb-apart, cond-true, cond-false, leb-of, leb-over, not-true, not-false, leb-true, eqb-true, and-left, and-right, and-of, or-true, or-left, or-right, true-not-false}
 use Rattle.term.specs.Words.{tagOf, nOf, kOf, tagPid, tagCall}

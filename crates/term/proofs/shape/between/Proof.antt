@@ -1,5 +1,4 @@
 -- `term::shape::between` meets its contract.
-use borrow.Author.Needs.{needs}
 use Rattle.term.proofs.SpotLaws.{below-low, above-low}
 use Rattle.term.proofs.shape.between.Statement.{statement}
 use Rattle.term.proofs.shape.between.Tie as tie
