@@ -44,13 +44,13 @@ pub const CLAUSE_SPOT: usize = 4;
 pub const VALUE: usize = 5;
 
 // The words of cons and of nil, and those of atoms.
-const CONS_WORD: u32 = 100794368;
+const CONS_WORD: u32 = 0x06020000;
 
-const NIL_WORD: u32 = 83886080;
+const NIL_WORD: u32 = 0x05000000;
 
-const FIRST_ATOM: u32 = 33554432;
+const FIRST_ATOM: u32 = 0x02000000;
 
-const LAST_ATOM: u32 = 33554687;
+const LAST_ATOM: u32 = 0x020000FF;
 
 // Whether a tag lies between two others.
 pub fn between(low: u32, tag: u32, high: u32) -> bool

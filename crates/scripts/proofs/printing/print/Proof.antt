@@ -5,15 +5,12 @@ use Rattle.scripts.proofs.printing.print.Reads as reads
 use Rattle.scripts.proofs.printing.print.Lts as lts
 use Rattle.io.proofs.write_all.Reads as write-all-reads
 
--- src/printing.rt:14:34
 slice-aggregate-write-all : tie.Need-slice-aggregate-write-all
 slice-aggregate-write-all c = ?
 
--- src/printing.rt:14:5
 write-all-requires : tie.Need-write-all-requires
 write-all-requires c κs = search needs
 
--- src/printing.rt:11:1
 returns : tie.Need-returns
 returns c = search needs
 

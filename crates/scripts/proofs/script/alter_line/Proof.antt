@@ -5,43 +5,33 @@ use Rattle.scripts.proofs.script.alter_line.Reads as reads
 use Rattle.scripts.proofs.script.alter_line.Lts as lts
 use Rattle.scripts.proofs.script.read_words.Reads as read-words-reads
 
--- src/script.rt:130:22
 slice-aggregate-read-words : tie.Need-slice-aggregate-read-words
 slice-aggregate-read-words c = search needs
 
--- src/script.rt:130:5
 read-words-requires : tie.Need-read-words-requires
 read-words-requires c κs = search needs
 
--- src/script.rt:131:14
 array-read-at : tie.Need-array-read-at
 array-read-at c = search needs
 
--- src/script.rt:131:14
 cast-at : tie.Need-cast-at
 cast-at c = ?
 
--- src/script.rt:133:21
 array-read-store : tie.Need-array-read-store
 array-read-store c = search needs
 
--- src/script.rt:133:9
 mul-store : tie.Need-mul-store
 mul-store c = search needs
 
--- src/script.rt:133:9
 slice-write-store : tie.Need-slice-write-store
 slice-write-store c = search needs
 
--- src/script.rt:128:1
 same-length : tie.Need-same-length
 same-length c = search needs
 
--- src/script.rt:128:1
 returns : tie.Need-returns
 returns c = search needs
 
--- src/script.rt:128:1
 returns-2 : tie.Need-returns-2
 returns-2 c = search needs
 

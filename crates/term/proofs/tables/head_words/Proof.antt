@@ -4,15 +4,12 @@ use Rattle.term.proofs.TableLaws.{head-two, head-one}
 use Rattle.term.proofs.tables.head_words.Statement.{statement}
 use Rattle.term.proofs.tables.head_words.Tie as tie
 
--- src/tables.rt:83:8
 tag-requires : tie.Need-tag-requires
 tag-requires c κs = search needs
 
--- src/tables.rt:80:1
 returns : tie.Need-returns
 returns c = search head-two
 
--- src/tables.rt:80:1
 returns-2 : tie.Need-returns-2
 returns-2 c = search head-one
 
