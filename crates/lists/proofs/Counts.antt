@@ -1,6 +1,6 @@
 -- How often a number stands in a list; numbers below n that are all different are n at most.
 use Prim.Native.Nat.{ℕ, zero, suc, _+_, _≤_}
-use mathlib.Core.Path.{_≡_, refl, sym, _∙_, ap}
+use mathlib.Core.Path.{_≡_, refl, _∙_, ap}
 use mathlib.Core.Logic.{_⊎_, inl, inr}
 use mathlib.Core.Bool.{Bool, true, false}
 use mathlib.Core.List.{List, [], _∷_, _++_}
@@ -38,15 +38,6 @@ occurs-head x xs = rw (eqb-same x) refl
 pub occurs-other : (c x : ℕ) (xs : List ℕ) → ¬ (c ≡ x) → occurs c (x ∷ xs) ≡ occurs c xs
 unfolding occurs oneIf
 occurs-other c x xs n = rw (eqb-apart c x n) refl
-
--- an element in the middle counts as it does in front
-pub occurs-middle : (c x : ℕ) (xs ys : List ℕ) → occurs c (xs ++ (x ∷ ys)) ≡ occurs c (x ∷ (xs ++ ys))
-unfolding occurs oneIf
-occurs-middle c x xs ys = occurs-append c xs (x ∷ ys) ∙ go (eqb c x) ∙ sym (ap (oneIf (eqb c x)) (occurs-append c xs ys))
-  where
-    go : (b : Bool) → occurs c xs + oneIf b (occurs c ys) ≡ oneIf b (occurs c xs + occurs c ys)
-    go true = omega arith
-    go false = refl
 
 one-grows : (b : Bool) (m n : ℕ) → m ≤ n → oneIf b m ≤ oneIf b n
 unfolding oneIf

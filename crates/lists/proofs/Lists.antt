@@ -1,13 +1,15 @@
--- Laws of the shared definitions on lists: equal rows, some element, the last element.
-use Prim.Native.Nat.{ℕ, zero, suc, _<_}
+-- Laws of the shared definitions on lists: equal rows, some element, the last element, what is kept, lists of lists.
+use Prim.Native.Nat.{ℕ, zero, suc, _≤_, _<_}
 use mathlib.Core.Path.{_≡_, refl, sym, _∙_, ap}
 use mathlib.Core.Bool.{Bool, true, false, _||_}
-use mathlib.Core.List.{List, [], _∷_, _++_}
+use mathlib.Core.Logic.{inl, inr}
+use mathlib.Core.List.{List, [], _∷_, _++_, map, map-append, append-nil, append-assoc}
 use native.Mathlib.Decide.{ℕ-discrete}
 use native.Mathlib.Omega.{arith}
 use lib.Dec.{eqb}
-use Rattle.lists.specs.Lists.{upTo, sameList, any, keep, butLast}
-use Rattle.lists.proofs.Tests.{true-not-false, eqb-true, eqb-same, and-left, and-right, and-of, or-false-left, or-false-right, or-false}
+use lib.ListN.{length}
+use Rattle.lists.specs.Lists.{upTo, sameList, any, keep, butLast, joined}
+use Rattle.lists.proofs.Tests.{true-not-false, true-or-false, eqb-true, eqb-same, and-left, and-right, and-of, or-false-left, or-false-right, or-false}
 
 pub same-list : (xs ys : List ℕ) → sameList xs ys ≡ true → xs ≡ ys
 unfolding sameList
@@ -79,3 +81,30 @@ module _ {A : Type 0} (test : A → Bool) where
   pub keep-false : (x : A) (xs : List A) → test x ≡ false → keep test (x ∷ xs) ≡ keep test xs
   unfolding keep
   keep-false x xs e = rw (e, keep) refl
+
+  pub keep-append : (xs ys : List A) → keep test (xs ++ ys) ≡ keep test xs ++ keep test ys
+  keep-append [] ys = sym (ap (λ (r : List A). r ++ keep test ys) keep-nil)
+  keep-append (x ∷ xs) ys = elim (true-or-false (test x)) [
+    | inl t ↦ keep-true x (xs ++ ys) t ∙ ap (λ (r : List A). x ∷ r) (keep-append xs ys) ∙ sym (ap (λ (r : List A). r ++ keep test ys) (keep-true x xs t))
+    | inr f ↦ keep-false x (xs ++ ys) f ∙ keep-append xs ys ∙ sym (ap (λ (r : List A). r ++ keep test ys) (keep-false x xs f))
+  ]
+
+  pub keep-fewer : (xs : List A) → length (keep test xs) ≤ length xs
+  keep-fewer [] = omega (arith, ap length keep-nil)
+  keep-fewer (x ∷ xs) = elim (true-or-false (test x)) [ inl t ↦ omega (arith, ap length (keep-true x xs t), keep-fewer xs) | inr f ↦ omega (arith, ap length (keep-false x xs f), keep-fewer xs) ]
+
+-- lists of lists
+module _ {A : Type 0} where
+  pub joined-append : (xss yss : List (List A)) → joined (xss ++ yss) ≡ joined xss ++ joined yss
+  unfolding joined
+  joined-append [] yss = refl
+  joined-append (xs ∷ xss) yss = ap (λ (r : List A). xs ++ r) (joined-append xss yss) ∙ sym (append-assoc xs (joined xss) (joined yss))
+
+  pub joined-last : (xss : List (List A)) (xs : List A) → joined (xss ++ (xs ∷ [])) ≡ joined xss ++ xs
+  unfolding joined
+  joined-last xss xs = joined-append xss (xs ∷ []) ∙ ap (λ (r : List A). joined xss ++ r) (append-nil xs)
+
+  -- one number more
+  pub joined-next : (f : ℕ → List A) (n : ℕ) → joined (map f (upTo (suc n))) ≡ joined (map f (upTo n)) ++ f n
+  unfolding upTo
+  joined-next f n = ap joined (map-append f (upTo n) (n ∷ [])) ∙ joined-last (map f (upTo n)) (f n)

@@ -3,14 +3,14 @@ use Prim.Native.Nat.{ℕ, zero, suc, _<_, _≤_, _+_, _-_}
 use mathlib.Core.Path.{_≡_, refl, sym, _∙_, ap, subst}
 use mathlib.Core.Logic.{_≢_, _⊎_, inl, inr}
 use mathlib.Core.Bool.{Bool, true, false, not, _&&_}
-use mathlib.Core.List.{List, [], _∷_, _++_, append-assoc, append-nil, map, map-append}
+use mathlib.Core.List.{List, [], _∷_, _++_, map, map-append}
 use native.Mathlib.Decide.{ℕ-discrete, decLt}
 use native.Mathlib.Omega.{arith}
 use lib.Dec.{ltb}
-use lib.ListN.{length}
+use lib.ListN.{length, length-append}
 use Rattle.lists.specs.Lists.{any, keep, upTo, joined}
-use Rattle.lists.proofs.Tests.{true-not-false, true-or-false, eqb-same, eqb-apart, ltb-true, ltb-of, ltb-over, ltb-false, and-left, and-right, and-of, or-left, not-true, cond-true, cond-false}
-use Rattle.lists.proofs.Lists.{keep-true, keep-false, keep-nil}
+use Rattle.lists.proofs.Tests.{true-not-false, eqb-same, eqb-apart, ltb-true, ltb-of, ltb-over, ltb-false, and-left, and-right, and-of, or-left, not-true, cond-true, cond-false}
+use Rattle.lists.proofs.Lists.{keep-nil, keep-true, keep-false, keep-append, keep-fewer, joined-next}
 use Rattle.lists.proofs.Members.{In, in-left, in-right, in-joined, in-map, in-upTo, none-kept, first-kept, in-kept, kept-passes, one-passes, passes}
 use Rattle.rules.specs.State.{State, historyOf, historyAt}
 use Rattle.rules.specs.Sound.{Sound}
@@ -262,23 +262,14 @@ module _ {s : State} (sound : Sound s) where
     settles k within low h = settled-is (length (events s)) k (omega (arith, h, total-low (s .sizes .places) k (level s) low)) (record { within = within; low = low })
 
 -- ---- how many events a cut takes off
-joined-last : {A : Type 0} (xss : List (List A)) (xs : List A) → joined (xss ++ (xs ∷ [])) ≡ joined xss ++ xs
-unfolding joined
-joined-last [] xs = append-nil xs
-joined-last (ys ∷ xss) xs = ap (λ z. ys ++ z) (joined-last xss xs) ∙ sym (append-assoc ys (joined xss) xs)
-
 module _ (test : Event → Bool) where
   kept-append : (xs ys : List Event) → length (keep test (xs ++ ys)) ≡ length (keep test xs) + length (keep test ys)
-  kept-append [] ys = omega (arith, ap length (keep-nil test))
-  kept-append (x ∷ xs) ys = elim (true-or-false (test x)) [
-    | inl t ↦ omega (arith, ap length (keep-true test x (xs ++ ys) t), ap length (keep-true test x xs t), kept-append xs ys)
-    | inr t ↦ omega (arith, ap length (keep-false test x (xs ++ ys) t), ap length (keep-false test x xs t), kept-append xs ys)
-  ]
+  kept-append xs ys = ap length (keep-append test xs ys) ∙ length-append (keep test xs) (keep test ys)
 
   kept-joined : (f : ℕ → List Event) (n : ℕ) → length (keep test (joined (map f (upTo n)))) ≡ sum n (λ p. length (keep test (f p)))
   unfolding joined upTo
   kept-joined f zero = ap length (keep-nil test)
-  kept-joined f (suc n) = ap (λ z. length (keep test z)) (ap joined (map-append f (upTo n) (n ∷ [])) ∙ joined-last (map f (upTo n)) (f n)) ∙ omega (arith, kept-append (joined (map f (upTo n))) (f n), kept-joined f n)
+  kept-joined f (suc n) = ap (λ z. length (keep test z)) (joined-next f n) ∙ omega (arith, kept-append (joined (map f (upTo n))) (f n), kept-joined f n)
 
   kept-events : (s : State) → length (keep test (events s)) ≡ sum (s .sizes .places) (λ p. length (keep test (eventsOn s (entriesOf p))) + length (keep test (eventsOn s (deliveriesTo p))))
   unfolding events eventsAt
@@ -313,18 +304,11 @@ count-off s k low = split (s .sizes .places) ∙ ap (λ n. n + total (s .sizes .
     split : (n : ℕ) → total n (level s) ≡ total n (λ x. level s x - k x) + total n k
     split n = sum-minus n _ _ _ (λ y. omega (arith, low (entriesOf y), low (deliveriesTo y)))
 
-kept-fewer : (test : Event → Bool) (xs : List Event) → length (keep test xs) ≤ length xs
-kept-fewer test [] = omega (arith, ap length (keep-nil test))
-kept-fewer test (x ∷ xs) = elim (true-or-false (test x)) [
-  | inl t ↦ omega (arith, ap length (keep-true test x xs t), kept-fewer test xs)
-  | inr t ↦ omega (arith, ap length (keep-false test x xs t), kept-fewer test xs)
-]
-
 enough-rounds : (s : State) → total (s .sizes .places) (level s) ≤ length (events s)
 unfolding takenOff
 enough-rounds s =
     let all : Cut = λ x. 0 in
-    omega (arith, count-is s all, total-low (s .sizes .places) (level s) (λ x. level s x - 0) (λ x. omega arith), kept-fewer (λ e. not (stays all e)) (events s))
+    omega (arith, count-is s all, total-low (s .sizes .places) (level s) (λ x. level s x - 0) (λ x. omega arith), keep-fewer (λ e. not (stays all e)) (events s))
 
 -- ---- the cut that is computed is the set's
 module _ {s : State} (sound : Sound s) (x : Line) (i : ℕ) (h : i < level s x) where

@@ -9,7 +9,7 @@ use Rattle.rules.specs.State.{Message, Taking, taking, asRec, Entry, Sta
 use Rattle.rules.specs.Flight.{left}
 use Rattle.rules.specs.Depends.{arrivals}
 
--- g is what a history was when an entry of it was the newest
+-- g is a history as it was before its newest entries came, or as it is
 pub data Suffix (g : List Entry) : List Entry → Type 0 where
   whole : Suffix g g
   older : {e : Entry} {h : List Entry} → Suffix g h → Suffix g (e ∷ h)

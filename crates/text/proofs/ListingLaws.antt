@@ -1,9 +1,10 @@
 -- Laws of the listing's lines.
-use mathlib.Core.Path.{_≡_, sym, ap, _∙_}
-use mathlib.Core.List.{List, [], _∷_, _++_, map, map-append, append-nil, append-assoc}
+use mathlib.Core.Path.{_≡_}
+use mathlib.Core.List.{List, map}
 use Prim.Native.Nat.{ℕ, _+_, _*_, _/_, _%_, _<_}
 use native.Mathlib.Omega.{arith}
 use native.Mathlib.Numerals.{add-one}
+use Rattle.lists.proofs.Lists.{joined-next}
 use Rattle.lists.specs.Lists.{joined, upTo}
 use mathlib.Core.Option.{some}
 use lib.ListN.{length}
@@ -34,15 +35,6 @@ unfolding processText pidLine historyLine newestBytes newestLine queueLine words
 process-lines p process queue entries newest names words e n q w = rw (e, n, q, w)
 
 -- the texts of all places below one, and of that one too
-joined-last : (xs : List (List ℕ)) (x : List ℕ) → joined (xs ++ (x ∷ [])) ≡ joined xs ++ x
-unfolding joined
-joined-last [] x = append-nil x
-joined-last (y ∷ ys) x = ap (λ (r : List ℕ). y ++ r) (joined-last ys x) ∙ sym (append-assoc y (joined ys) x)
-
 module _ (text : ℕ → List ℕ) where
-  joined-next : (n : ℕ) → joined (map text (upTo (n + 1))) ≡ joined (map text (upTo n)) ++ text n
-  unfolding upTo
-  joined-next n = rw (add-one n) (ap joined (map-append text (upTo n) (n ∷ [])) ∙ joined-last (map text (upTo n)) (text n))
-
   pub wrote-place : (n : ℕ) {old mid new : List ℕ} {at b e : ℕ} → Wrote (joined (map text (upTo n))) at old mid b → Wrote (text n) b mid new e → Wrote (joined (map text (upTo (n + 1)))) at old new e
-  wrote-place n w v = rw (joined-next n) (wrote-then w v)
+  wrote-place n w v = rw (add-one n, joined-next text n) (wrote-then w v)

@@ -3,13 +3,14 @@ use Rattle.reading.proofs.FlightReads.{end-place}
 use Prim.Native.Nat.{_-_, _≤_}
 use native.Mathlib.Omega.{arith}
 use borrow.Author.Needs.{needs}
-use Rattle.rollback.proofs.LinkWhole.{Filled, filled-start, filled-more, filled-done, place-low, end-low, come-low}
+use Rattle.rollback.specs.Bounds.{mostPlaces}
+use Rattle.rollback.proofs.LinkWhole.{places-low, Filled, filled-start, filled-more, filled-done, end-low, come-low}
 use Rattle.rollback.proofs.arrivals.levels.Statement.{statement}
 use Rattle.rollback.proofs.arrivals.levels.Tie as tie
 
 abbrev Inv-loop : tie.InvT-loop
 Inv-loop store levels₀ end p₀ levels p =
-    (p ≤ end) × Filled store p levels
+    (p ≤ end) × (end ≤ mostPlaces) × Filled store p levels
 
 abbrev μ-loop : tie.MeasureT-loop
 μ-loop store levels₀ end p₀ levels p = end - p
@@ -18,48 +19,50 @@ places-requires : tie.Need-places-requires Inv-loop μ-loop
 places-requires c κs = search needs
 
 loop-holds : tie.Need-loop-holds Inv-loop μ-loop
-loop-holds c = (omega arith, filled-start _)
+loop-holds c = (omega arith, places-low _ (c .before .before .pre) _ (c .places .ensures), filled-start _)
 
 entry-count-requires : tie.Need-entry-count-requires Inv-loop μ-loop
 entry-count-requires c κs = (c .before .before .before .before .pre, end-place _ _ _ (c .before .before .places .ensures) (c .loop-test .taken))
 
 mul-levels : tie.Need-mul-levels Inv-loop μ-loop
-mul-levels c = let h = place-low _ (c .before .before .before .before .before .pre) _ (end-place _ _ _ (c .before .before .before .places .ensures) (c .before .loop-test .taken)) in omega (arith, h)
+mul-levels c = search needs
 
 mul-levels-2 : tie.Need-mul-levels-2 Inv-loop μ-loop
-mul-levels-2 c = let h = place-low _ (c .before .before .before .before .before .pre) _ (end-place _ _ _ (c .before .before .before .places .ensures) (c .before .loop-test .taken)) in omega (arith, h)
+mul-levels-2 c = search needs
 
 array-write-levels : tie.Need-array-write-levels Inv-loop μ-loop
-array-write-levels c = let h = place-low _ (c .before .before .before .before .before .pre) _ (end-place _ _ _ (c .before .before .before .places .ensures) (c .before .loop-test .taken)) in omega (arith, h)
+array-write-levels c = search needs
 
 come-count-requires : tie.Need-come-count-requires Inv-loop μ-loop
 come-count-requires c κs = (c .before .before .before .before .before .pre, end-place _ _ _ (c .before .before .before .places .ensures) (c .before .loop-test .taken))
 
 mul-levels-3 : tie.Need-mul-levels-3 Inv-loop μ-loop
-mul-levels-3 c = let h = place-low _ (c .before .before .before .before .before .before .pre) _ (end-place _ _ _ (c .before .before .before .before .places .ensures) (c .before .before .loop-test .taken)) in omega (arith, h)
+mul-levels-3 c = search needs
 
 add-levels : tie.Need-add-levels Inv-loop μ-loop
-add-levels c = let h = place-low _ (c .before .before .before .before .before .before .pre) _ (end-place _ _ _ (c .before .before .before .before .places .ensures) (c .before .before .loop-test .taken)) in omega (arith, h)
+add-levels c = search needs
 
 mul-levels-4 : tie.Need-mul-levels-4 Inv-loop μ-loop
-mul-levels-4 c = let h = place-low _ (c .before .before .before .before .before .before .pre) _ (end-place _ _ _ (c .before .before .before .before .places .ensures) (c .before .before .loop-test .taken)) in omega (arith, h)
+mul-levels-4 c = search needs
 
 array-write-levels-2 : tie.Need-array-write-levels-2 Inv-loop μ-loop
-array-write-levels-2 c = let h = place-low _ (c .before .before .before .before .before .before .pre) _ (end-place _ _ _ (c .before .before .before .before .places .ensures) (c .before .before .loop-test .taken)) in omega (arith, h)
+array-write-levels-2 c = search needs
 
 add-p : tie.Need-add-p Inv-loop μ-loop
-add-p c = let h = place-low _ (c .before .before .before .before .before .before .pre) _ (end-place _ _ _ (c .before .before .before .before .places .ensures) (c .before .before .loop-test .taken)) in omega (arith, h)
+add-p c = search needs
 
 loop-less : tie.Need-loop-less Inv-loop μ-loop
 loop-less c = search needs
 
 loop-again : tie.Need-loop-again Inv-loop μ-loop
-loop-again c =
-    let h = place-low _ (c .before .before .before .before .before .before .pre) _ (end-place _ _ _ (c .before .before .before .before .places .ensures) (c .before .before .loop-test .taken)) in
-    (omega arith, filled-more _ (c .before .before .before .loop .p) _ _ (c .before .before .before .loop .levels) (c .before .before .before .loop .inv .1) h (end-low _ (c .before .before .before .before .before .before .pre) _ _ (c .before .entry-count .ensures)) (come-low _ (c .before .before .before .before .before .before .pre) _ _ (c .come-count .ensures)) (c .before .entry-count .ensures) (c .come-count .ensures))
+loop-again c = (
+  omega arith,
+  c .before .before .before .loop .inv .1,
+  filled-more _ (c .before .before .before .loop .p) _ _ (c .before .before .before .loop .levels) (c .before .before .before .loop .inv .2) (search needs) (end-low _ (c .before .before .before .before .before .before .pre) _ _ (c .before .entry-count .ensures)) (come-low _ (c .before .before .before .before .before .before .pre) _ _ (c .come-count .ensures)) (c .before .entry-count .ensures) (c .come-count .ensures),
+)
 
 returns : tie.Need-returns Inv-loop μ-loop
-returns c = filled-done _ _ _ _ (c .before .before .places .ensures) (c .loop-test .left) (c .before .loop .inv .1)
+returns c = filled-done _ _ _ _ (c .before .before .places .ensures) (c .loop-test .left) (c .before .loop .inv .2)
 
 pub levels-spec : {M : Type 1} → statement M
 levels-spec =
