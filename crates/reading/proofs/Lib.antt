@@ -1,3 +1,4 @@
+-- The words that are read, said of the state that they hold.
 pub mod Holding
 pub mod Slotted
 pub mod StateReads

@@ -1,3 +1,4 @@
+-- The tests decide the clauses of soundness.
 pub mod FlowTest
 pub mod SoundTestWalk
 pub mod SoundTestShape

@@ -1,3 +1,4 @@
+-- Rows of words, and the terms that they stand for.
 pub mod RowInteger
 pub mod RowTerms
 pub mod RowPlace

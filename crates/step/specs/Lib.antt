@@ -1,3 +1,4 @@
+-- What the code of one process step promises, on rows of words.
 pub mod Answers
 pub mod Rows
 pub mod Operands

@@ -1,3 +1,4 @@
+-- Laws of images, the test of layout, and load.
 pub mod Lengths
 pub mod Reading
 pub mod Restoring

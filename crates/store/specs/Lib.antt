@@ -1,3 +1,4 @@
+-- The layout of the store, which words are an image, and load.
 pub mod Layout
 pub mod Image
 pub mod Cases

@@ -1,3 +1,4 @@
+-- The words that are written are those of the state after.
 pub mod SlotWrites
 pub mod SlotCode
 pub mod SpanLaws

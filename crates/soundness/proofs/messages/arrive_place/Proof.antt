@@ -29,10 +29,10 @@ part-arrive-all-end : tie.Need-part-arrive-all-end
 part-arrive-all-end c = search needs
 
 arrive-all-requires : tie.Need-arrive-all-requires
-arrive-all-requires c κs = search needs
+arrive-all-requires c κs = let p = c .before .before .before .before .before .pre in (p .1, p .2, p .3, p .4)
 
 arrive-taken-requires : tie.Need-arrive-taken-requires
-arrive-taken-requires c κs = search needs
+arrive-taken-requires c κs = let p = c .before .before .before .before .before .before .before .before .before .before .pre in (p .0 .block .first-fits, p .0 .block .slots, p .0 .taken, search needs, p .2, p .3, p .4)
 
 same-length : tie.Need-same-length
 same-length c = search needs
