@@ -1,36 +1,28 @@
+-- `answer_block` meets its contract.
+use native.Mathlib.Omega.{arith}
+use Rattle.scripts.proofs.Ends.{block-ends}
 use borrow.Author.Needs.{needs}
 use Rattle.scripts.proofs.input.answer_block.Statement.{statement}
 use Rattle.scripts.proofs.input.answer_block.Tie as tie
-use Rattle.scripts.proofs.input.answer_block.Reads as reads
-use Rattle.scripts.proofs.input.answer_block.Lts as lts
-use Rattle.bench.proofs.input.take_block.Reads as take-block-reads
-use Rattle.scripts.proofs.printing.print.Reads as print-reads
 
--- src/input.rt:31:55
 slice-aggregate-take-block : tie.Need-slice-aggregate-take-block
 slice-aggregate-take-block c = search needs
 
--- src/input.rt:31:9
 take-block-requires : tie.Need-take-block-requires
 take-block-requires c κs = search needs
 
--- src/input.rt:32:11
 slice-aggregate-print : tie.Need-slice-aggregate-print
 slice-aggregate-print c = search needs
 
--- src/input.rt:32:5
 print-requires : tie.Need-print-requires
-print-requires c κs = ?
+print-requires c κs = block-ends (c .before .before .before .before .before .before .take-block .ensures .1) (omega (arith, c .before .before .before .before .before .before .before .before .before .before .before .before .before .pre .1 .1))
 
--- src/input.rt:24:1
 same-length : tie.Need-same-length
 same-length c = search needs
 
--- src/input.rt:24:1
 same-length-2 : tie.Need-same-length-2
 same-length-2 c = search needs
 
--- src/input.rt:24:1
 returns : tie.Need-returns
 returns c = search needs
 

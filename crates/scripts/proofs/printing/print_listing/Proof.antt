@@ -1,40 +1,30 @@
+-- `print_listing` meets its contract.
+use Rattle.scripts.proofs.Ends.{listing-ends}
 use borrow.Author.Needs.{needs}
 use Rattle.scripts.proofs.printing.print_listing.Statement.{statement}
 use Rattle.scripts.proofs.printing.print_listing.Tie as tie
-use Rattle.scripts.proofs.printing.print_listing.Reads as reads
-use Rattle.scripts.proofs.printing.print_listing.Lts as lts
-use Rattle.listing.proofs.listing.listing.Reads as listing-reads
-use Rattle.scripts.proofs.printing.print.Reads as print-reads
 
--- src/printing.rt:35:9
 listing-requires : tie.Need-listing-requires
 listing-requires c κs = search needs
 
--- src/printing.rt:36:22
 enum-known-a : tie.Need-enum-known-a
 enum-known-a c = search needs
 
--- src/printing.rt:37:9
 same-length : tie.Need-same-length
 same-length c = search needs
 
--- src/printing.rt:37:9
 returns : tie.Need-returns
 returns c = search needs
 
--- src/printing.rt:39:16
 cast-print : tie.Need-cast-print
 cast-print c = search needs
 
--- src/printing.rt:39:5
 print-requires : tie.Need-print-requires
-print-requires c κs = ?
+print-requires c κs = listing-ends _ _ _ _ _ (c .before .before .before .before .before .before .listing .ensures) (c .before .before .a .given .1) (search needs)
 
--- src/printing.rt:34:1
 same-length-2 : tie.Need-same-length-2
 same-length-2 c = search needs
 
--- src/printing.rt:34:1
 returns-2 : tie.Need-returns-2
 returns-2 c = search needs
 
