@@ -1,9 +1,8 @@
 -- The state after a request on a sound state is sound, and what a reply says of it is what the rules say.
 use Prim.Native.Nat.{ℕ}
-use mathlib.Core.Path.{_≡_, refl, sym, _∙_, ap, subst}
+use mathlib.Core.Path.{_≡_, refl, ap}
 use mathlib.Core.Bool.{Bool, true, false}
 use mathlib.Core.Option.{Option, none, some}
-use mathlib.Core.List.{List, [], _∷_, _++_}
 use native.Mathlib.Omega.{arith}
 use lib.ListN.{length}
 use Rattle.rules.specs.Answers.{done}
@@ -12,8 +11,8 @@ use Rattle.rules.specs.Commands.{Command, Plan, refuse, accept, apply, run, aft
 use Rattle.rules.specs.Sound.{Sound}
 use Rattle.rules.specs.Depends.{entriesOf}
 use Rattle.rules.specs.Line.{Request, single, rollbackTo}
-use Rattle.rules.specs.Rollback.{Cut, Rollback, is-done, is-held, no-check, no-process, RolledBack, refused, rolled, endOf, newestCheck, event, cutBefore, takenOff, undoAll, undoTo, rollback}
-use Rattle.rules.specs.Replies.{Answer, ofPlan, ofRollback, perform}
+use Rattle.rules.specs.Rollback.{Cut, Rollback, is-done, RolledBack, refused, rolled, numberOf, countOf, endOf, newestCheck, event, cutBefore, takenOff, undoAll, undoTo, rollback}
+use Rattle.rules.specs.Replies.{ofPlan, ofRollback, perform}
 use Rattle.rules.proofs.Demands.{demands}
 use Rattle.rules.proofs.RollbackDemands.{rollback-demands}
 
@@ -24,21 +23,15 @@ unfolding ofPlan runState afterPlan
 sound-plan s c (refuse number) sound e = sound
 sound-plan s c (accept deed move) sound e = demands .sound .stepped s (apply move s) c sound (ap (λ (x : Plan). afterPlan x s) e)
 
-sound-rollback : {s end : State} {p t a n : ℕ} → Sound s → Rollback s p t a n end → Sound end
-sound-rollback {s} {end} sound (is-done x y removes) = rollback-demands .removal .sound s end _ _ sound removes
-sound-rollback sound (is-held x y z) = sound
-sound-rollback sound (no-check x y) = sound
-sound-rollback sound (no-process x) = sound
-
-rolled-after : (s : State) (r : RolledBack) → ofRollback s r .after ≡ endOf s r
-unfolding ofRollback endOf
-rolled-after s (refused number) = refl
-rolled-after s (rolled count end) = refl
+sound-rollback : (s : State) (p t : ℕ) (r : RolledBack) → Sound s → Rollback s p t (numberOf r) (countOf r) (endOf s r) → Sound (ofRollback s r .after)
+unfolding ofRollback numberOf countOf endOf
+sound-rollback s p t (refused number) sound allowed = sound
+sound-rollback s p t (rolled count end) sound (is-done x y removes) = rollback-demands .removal .sound s end _ _ sound removes
 
 pub sound-after : (request : Request) (s : State) → Sound s → Sound (perform request s .after)
 unfolding perform
 sound-after (single c) s sound = sound-plan s c (run c s) sound refl
-sound-after (rollbackTo p t) s sound = subst Sound (sym (rolled-after s (rollback p t s))) (sound-rollback sound (rollback-demands .exact .allowed s p t sound))
+sound-after (rollbackTo p t) s sound = sound-rollback s p t (rollback p t s) sound (rollback-demands .exact .allowed s p t sound)
 
 -- ---- what was undone
 

@@ -1,24 +1,21 @@
 -- Laws of input that is taken byte by byte: the lines that it has, and what is printed for them.
-use Prim.Native.Nat.{ℕ, suc, _+_, _*_, _<_, _≤_}
+use Prim.Native.Nat.{ℕ, _+_, _<_, _≤_}
 use mathlib.Core.Path.{_≡_, refl, sym, _∙_, ap, subst}
-use mathlib.Core.Logic.{inl, inr}
-use mathlib.Core.Bool.{true, false}
 use mathlib.Core.List.{List, [], _∷_, _++_, append-nil, append-assoc}
 use native.Mathlib.Omega.{arith}
 use native.Mathlib.Numerals.{add-one}
 use native.Mathlib.Decide.{decLe}
-use lib.Dec.{eqb}
 use lib.ListN.{length, take, getD, set, length-append, length-set}
 use lib.Seq.{take-all, take-suc, take-suc-set, take-append-le, length-take-le, append-snoc}
-use Rattle.lists.proofs.Tests.{true-or-false, eqb-apart}
+use Rattle.lists.proofs.Tests.{eqb-apart}
 use Rattle.rules.specs.State.{State}
 use Rattle.rules.specs.Text.{lineFeed}
 use Rattle.rules.specs.Line.{ontoFirst, split, withoutEmptyLast, linesOf, parseLine}
 use Rattle.rules.specs.Replies.{replies, withoutState}
-use Rattle.text.specs.Written.{far, onward, Wrote}
+use Rattle.text.specs.Written.{far, onward}
 use Rattle.text.proofs.LongLines.{parse-long}
 use Rattle.text.proofs.WritingLaws.{wrote-then, wrote-none}
-use Rattle.bench.specs.Replied.{replyText, replyRoom, Replied}
+use Rattle.bench.specs.Replied.{replyText, Replied}
 use Rattle.bench.specs.Prints.{Prints}
 use Rattle.bench.specs.Input.{ontoPieces, linesFrom, Kept, Took, Ended}
 use Rattle.bench.proofs.PrintsLaws.{reply-prints}

@@ -3,12 +3,8 @@ use Prim.Native.Nat.{ℕ, _<_, _≤_}
 use mathlib.Core.Path.{_≡_, refl, sym, _∙_, ap}
 use mathlib.Core.Bool.{Bool, true, false, _&&_}
 use mathlib.Core.Option.{Option, none, some}
-use mathlib.Core.List.{List, [], append-nil}
-use native.Mathlib.Decide.{decLe}
-use native.Mathlib.Omega.{arith}
-use lib.Dec.{eqb}
-use lib.ListN.{length, take}
-use lib.Seq.{take-all, length-take-le}
+use mathlib.Core.List.{List, append-nil}
+use lib.ListN.{length}
 use Rattle.lists.proofs.Tests.{eqb-of, eqb-apart}
 use Rattle.rules.specs.Answers.{done}
 use Rattle.rules.specs.Commands.{step, spawnInto, deliver, back, undeliver}
@@ -18,7 +14,6 @@ use Rattle.text.specs.Requests.{requestOf}
 use Rattle.text.specs.Written.{Wrote}
 use Rattle.text.specs.declared.parsing.Line.{Line}
 use Rattle.text.specs.declared.parsing.Line.the-variants.{Step, Spawn, Deliver, Back, Undeliver, Rollback, Malformed}
-use Rattle.text.proofs.LongLines.{parse-long}
 use Rattle.text.proofs.WritingLaws.{wrote-then}
 use Rattle.calls.specs.Calls.{outcome, AskedCall, LineCall}
 use Rattle.calls.specs.Numbers.{numberOf, valueOf, Performs, CommandCall, RollbackCall, TextCall, valuePlace}
@@ -140,10 +135,3 @@ module _ (request : Option Request) (a : Answer) (n : ℕ) (number : n ≡ numbe
 pub replied : (text entry exit old new : List ℕ) (at end : ℕ) (asked : Line) (a : Answer) → requestOf asked ≡ parseLine text → AskedCall (requestOf asked) entry (outcome (numberOf a) (valueOf a) exit)
     → Wrote (replyText (requestOf asked) a) at old new end → length (replyText (requestOf asked) a) ≤ replyRoom → Replied text entry exit at old new end
 replied text entry exit old new at end asked a e c w f = record { answer = a; call = asked-line asked entry exit a text e c; text = rw e at w; fits = rw e at f }
-
--- A line of which only the first bytes are kept, more than any good line has, asks for what the whole line asks for.
-pub cut-line : (line : List ℕ) (n : ℕ) → 16 < n → parseLine (take n line) ≡ parseLine line
-cut-line line n h = elim (decLe (length line) n) [
-  | yes l ↦ ap parseLine (take-all n line l)
-  | no g ↦ parse-long (take n line) (let k = length-take-le n line (omega arith) in omega arith) ∙ sym (parse-long line (omega arith))
-]

@@ -1,7 +1,7 @@
 -- Blocks of input, the end of the input and the listing, as the program bench puts them, print what 01's program prints.
-use Prim.Native.Nat.{ℕ, _+_, _*_, _<_, _≤_}
-use mathlib.Core.Path.{_≡_, refl, sym, _∙_, ap, subst}
-use mathlib.Core.List.{List, [], _∷_, _++_, append-assoc}
+use Prim.Native.Nat.{ℕ, _+_, _<_, _≤_}
+use mathlib.Core.Path.{_≡_, sym, _∙_, ap, subst}
+use mathlib.Core.List.{List, [], _++_, append-assoc}
 use native.Mathlib.Omega.{arith}
 use lib.ListN.{length, take, getD, replicate, length-replicate, getD-replicate}
 use Rattle.lists.proofs.Tests.{leb-true, and-left}
@@ -16,7 +16,6 @@ use Rattle.store.specs.Loading.{Outcome}
 use Rattle.store.proofs.Laws.{image-laws}
 use Rattle.calls.specs.Calls.{LoadCall}
 use Rattle.calls.specs.Promises.{benchModule}
-use Rattle.bench.specs.Replied.{replyRoom}
 use Rattle.bench.specs.Prints.{Prints}
 use Rattle.bench.specs.Input.{linesFrom, Taken, no-more, block, Program, ProgramOfBlocks}
 use Rattle.bench.proofs.ReplyRoom.{text-taken}

@@ -16,26 +16,16 @@ use Rattle.calls.specs.Calls.{written, ListingCall}
 use Rattle.calls.specs.Numbers.{numberOf, valueOf, Lists}
 use Rattle.calls.specs.declared.answers.Answer.{Answer}
 use Rattle.calls.specs.declared.answers.Answer.the-variants.{Done}
-use Rattle.bench.specs.Replied.{replyRoom, Replied}
-use Rattle.bench.specs.Input.{Took, Ended}
+use Rattle.text.proofs.WritingLaws.{wrote-length}
+use Rattle.bench.specs.Replied.{replyRoom}
+use Rattle.bench.specs.Input.{Took}
 use Rattle.bench.proofs.ReplyRoom.{text-taken}
 
-pub reply-ends : {line entry exit old new : List ℕ} {end : ℕ} → Replied line entry exit 0 old new end → replyRoom ≤ length old → end ≤ length old
-reply-ends r room =
-    let f = r .fits in
-    let e = text-taken (r .text) (omega arith) .0 in
-    omega arith
-
-pub block-ends : {entry begun input exit since old new : List ℕ} {end : ℕ} → Took entry begun input exit since 0 old new end → replyRoom * length input ≤ length old → end ≤ length old
+pub block-ends : {entry begun input exit since old new : List ℕ} {end : ℕ} → Took entry begun input exit since 0 old new end → replyRoom * length input ≤ length old → end ≤ length new
 block-ends t room =
     let f = t .fits in
     let e = text-taken (t .wrote) (omega arith) .0 in
-    omega arith
-
-pub last-ends : {entry begun exit old new : List ℕ} {end : ℕ} → Ended entry begun exit old new end → replyRoom ≤ length old → end ≤ length old
-last-ends t room =
-    let f = t .fits in
-    let e = text-taken (t .wrote) (omega arith) .0 in
+    let l = wrote-length (t .wrote) in
     omega arith
 
 -- a listing that is answered `done`
@@ -47,18 +37,18 @@ written-ends text out h = elim (true-or-false (leb (length text) (length out))) 
 ]
 
 -- if its length went past the output the store would be no image, and the listing refused
-pub listing-ends : (store old new : List ℕ) (a : Answer) (n : ℕ) → Lists store old new a → a ≡ Done n → n ≤ length old
+pub listing-ends : (store old new : List ℕ) (a : Answer) (n : ℕ) → Lists store old new a → a ≡ Done n → length new ≡ length old → n ≤ length new
 unfolding Lists ListingCall numberOf valueOf
-listing-ends store old new a n call is = elim (decLe n (length old)) [
-  | yes l ↦ l
+listing-ends store old new a n call is long = elim (decLe n (length old)) [
+  | yes l ↦ omega arith
   | no g ↦
       let number : numberOf a ≡ done = ap numberOf is in
       let value : valueOf a ≡ n = ap valueOf is in
       let no-image : ¬ IsImage store = λ x.
-          let same = call .on-image (x .state) (x .rest) (x .sound) (x .words) in
-          let within = written-ends (listing (x .state)) old (sym (ap (λ (o : Outcome). o .number) same) ∙ number) in
-          let length-is = ap (λ (o : Outcome). o .value) same in
-          absurd (omega (arith, g, within, length-is, value)) in
+      let same = call .on-image (x .state) (x .rest) (x .sound) (x .words) in
+      let within = written-ends (listing (x .state)) old (sym (ap (λ (o : Outcome). o .number) same) ∙ number) in
+      let length-is = ap (λ (o : Outcome). o .value) same in
+      absurd (omega (arith, g, within, length-is, value)) in
       let fifteen : _≡_ {A = ℕ} notAState done = sym (ap (λ (o : Outcome). o .number) (call .elsewhere no-image)) ∙ number in
       absurd (omega (arith, fifteen))
 ]

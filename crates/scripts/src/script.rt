@@ -125,13 +125,17 @@ fn clear(store: &mut [u32]) {
 }
 
 // Makes one word of the store another.
+fn alter(store: &mut [u32], index: u32, word: u32) {
+    let at = index as usize;
+    if at < store.len() {
+        store[at] = word;
+    }
+}
+
 fn alter_line(store: &mut [u32], text: &[u8]) {
     let mut words = [0u32; 2];
     read_words(text, &mut words);
-    let at = words[0] as usize;
-    if at < store.len() {
-        store[at] = words[1];
-    }
+    alter(store, words[0], words[1]);
 }
 
 // A line, and what it prints.

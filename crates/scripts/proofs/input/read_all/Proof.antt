@@ -7,10 +7,10 @@ use Rattle.scripts.proofs.input.read_all.Statement.{statement}
 use Rattle.scripts.proofs.input.read_all.Tie as tie
 
 abbrev Inv-loop : tie.InvT-loop
-Inv-loop store₀ line₀ turn₀ turns₀ store line turn turns = (length store ≡ length store₀) × (length line ≡ length line₀) × (turn .count ≤ length line₀)
+Inv-loop lines store₀ line₀ turn₀ turns₀ store line turn turns = (length store ≡ length store₀) × (length line ≡ length line₀) × (turn .count ≤ length line₀)
 
 abbrev μ-loop : tie.MeasureT-loop
-μ-loop store₀ line₀ turn₀ turns₀ store line turn turns = turns
+μ-loop lines store₀ line₀ turn₀ turns₀ store line turn turns = turns
 
 loop-holds : tie.Need-loop-holds Inv-loop μ-loop
 loop-holds c = search needs

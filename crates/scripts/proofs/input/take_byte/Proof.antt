@@ -9,7 +9,7 @@ slice-reshare-prefix-perform : tie.Need-slice-reshare-prefix-perform
 slice-reshare-prefix-perform c = search needs
 
 slice-aggregate-perform : tie.Need-slice-aggregate-perform
-slice-aggregate-perform c = sym (length-take-le _ _ (c .before .before .before .before .before .pre))
+slice-aggregate-perform c = sym (length-take-le _ _ (search needs))
 
 perform-requires : tie.Need-perform-requires
 perform-requires c κs = search needs
@@ -23,20 +23,14 @@ same-length-2 c = search needs
 returns : tie.Need-returns
 returns c = search needs
 
-returns-2 : tie.Need-returns-2
-returns-2 c = search needs
-
-slice-write-line : tie.Need-slice-write-line
-slice-write-line c = search needs
-
-add-result : tie.Need-add-result
-add-result c = search needs
+keep-requires : tie.Need-keep-requires
+keep-requires c κs = search needs
 
 same-length-3 : tie.Need-same-length-3
 same-length-3 c = search needs
 
-returns-3 : tie.Need-returns-3
-returns-3 c = search needs
+returns-2 : tie.Need-returns-2
+returns-2 c = search needs
 
 pub take-byte-spec : {M : Type 1} → statement M
 take-byte-spec =
@@ -48,8 +42,6 @@ take-byte-spec =
     same-length
     same-length-2
     returns
-    returns-2
-    slice-write-line
-    add-result
+    keep-requires
     same-length-3
-    returns-3)
+    returns-2)

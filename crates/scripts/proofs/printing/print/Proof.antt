@@ -1,12 +1,12 @@
+-- `print` meets its contract.
+use mathlib.Core.Path.{sym}
+use lib.Seq.{length-take-le}
 use borrow.Author.Needs.{needs}
 use Rattle.scripts.proofs.printing.print.Statement.{statement}
 use Rattle.scripts.proofs.printing.print.Tie as tie
-use Rattle.scripts.proofs.printing.print.Reads as reads
-use Rattle.scripts.proofs.printing.print.Lts as lts
-use Rattle.io.proofs.write_all.Reads as write-all-reads
 
 slice-aggregate-write-all : tie.Need-slice-aggregate-write-all
-slice-aggregate-write-all c = ?
+slice-aggregate-write-all c = sym (length-take-le _ _ (search needs))
 
 write-all-requires : tie.Need-write-all-requires
 write-all-requires c κs = search needs

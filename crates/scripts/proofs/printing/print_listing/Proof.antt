@@ -1,10 +1,8 @@
+-- `print_listing` meets its contract.
+use Rattle.scripts.proofs.Ends.{listing-ends}
 use borrow.Author.Needs.{needs}
 use Rattle.scripts.proofs.printing.print_listing.Statement.{statement}
 use Rattle.scripts.proofs.printing.print_listing.Tie as tie
-use Rattle.scripts.proofs.printing.print_listing.Reads as reads
-use Rattle.scripts.proofs.printing.print_listing.Lts as lts
-use Rattle.listing.proofs.listing.listing.Reads as listing-reads
-use Rattle.scripts.proofs.printing.print.Reads as print-reads
 
 listing-requires : tie.Need-listing-requires
 listing-requires c κs = search needs
@@ -22,7 +20,7 @@ cast-print : tie.Need-cast-print
 cast-print c = search needs
 
 print-requires : tie.Need-print-requires
-print-requires c κs = ?
+print-requires c κs = listing-ends _ _ _ _ _ (c .before .before .before .before .before .before .listing .ensures) (c .before .before .a .given .1) (search needs)
 
 same-length-2 : tie.Need-same-length-2
 same-length-2 c = search needs

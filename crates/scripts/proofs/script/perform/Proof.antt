@@ -34,8 +34,11 @@ slice-aggregate-begins-2 c = search needs
 begins-requires-2 : tie.Need-begins-requires-2
 begins-requires-2 c κs = search needs
 
-list-line-requires : tie.Need-list-line-requires
-list-line-requires c κs = search needs
+list-requires : tie.Need-list-requires
+list-requires c κs = search needs
+
+refused-requires : tie.Need-refused-requires
+refused-requires c κs = search needs
 
 same-length-2 : tie.Need-same-length-2
 same-length-2 c = search needs
@@ -82,14 +85,38 @@ same-length-4 c = search needs
 returns-4 : tie.Need-returns-4
 returns-4 c = search needs
 
-command-requires : tie.Need-command-requires
-command-requires c κs = search needs
+slice-aggregate-begins-5 : tie.Need-slice-aggregate-begins-5
+slice-aggregate-begins-5 c = search needs
+
+begins-requires-5 : tie.Need-begins-requires-5
+begins-requires-5 c κs = search needs
+
+sub-alter-line : tie.Need-sub-alter-line
+sub-alter-line c = let h = c .before .before .begins5 .ensures .within (c .before .if5 .taken) in omega arith
+
+part-alter-line-start : tie.Need-part-alter-line-start
+part-alter-line-start c = let h = c .before .before .begins5 .ensures .within (c .before .if5 .taken) in omega arith
+
+part-alter-line-end : tie.Need-part-alter-line-end
+part-alter-line-end c = search needs
+
+alter-line-requires : tie.Need-alter-line-requires
+alter-line-requires c κs = search needs
 
 same-length-5 : tie.Need-same-length-5
 same-length-5 c = search needs
 
 returns-5 : tie.Need-returns-5
 returns-5 c = search needs
+
+print-reply-requires : tie.Need-print-reply-requires
+print-reply-requires c κs = search needs
+
+same-length-6 : tie.Need-same-length-6
+same-length-6 c = search needs
+
+returns-6 : tie.Need-returns-6
+returns-6 c = search needs
 
 pub perform-spec : {M : Type 1} → statement M
 perform-spec =
@@ -105,7 +132,8 @@ perform-spec =
     returns
     slice-aggregate-begins-2
     begins-requires-2
-    list-line-requires
+    list-requires
+    refused-requires
     same-length-2
     returns-2
     slice-aggregate-begins-3
@@ -121,6 +149,14 @@ perform-spec =
     clear-requires
     same-length-4
     returns-4
-    command-requires
+    slice-aggregate-begins-5
+    begins-requires-5
+    sub-alter-line
+    part-alter-line-start
+    part-alter-line-end
+    alter-line-requires
     same-length-5
-    returns-5)
+    returns-5
+    print-reply-requires
+    same-length-6
+    returns-6)

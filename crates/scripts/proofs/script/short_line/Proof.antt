@@ -23,11 +23,14 @@ cast-end c = search needs
 array-borrow-prefix-out : tie.Need-array-borrow-prefix-out
 array-borrow-prefix-out c = search needs
 
-slice-aggregate-list-in : tie.Need-slice-aggregate-list-in
-slice-aggregate-list-in c = sym (length-take-le _ _ (search needs))
+slice-aggregate-print-listing : tie.Need-slice-aggregate-print-listing
+slice-aggregate-print-listing c = sym (length-take-le _ _ (search needs))
 
-list-in-requires : tie.Need-list-in-requires
-list-in-requires c κs = search needs
+print-listing-requires : tie.Need-print-listing-requires
+print-listing-requires c κs = search needs
+
+refused-requires : tie.Need-refused-requires
+refused-requires c κs = search needs
 
 returns-2 : tie.Need-returns-2
 returns-2 c = search needs
@@ -45,7 +48,8 @@ short-line-spec =
     returns
     cast-end
     array-borrow-prefix-out
-    slice-aggregate-list-in
-    list-in-requires
+    slice-aggregate-print-listing
+    print-listing-requires
+    refused-requires
     returns-2
     returns-3)
