@@ -1,5 +1,4 @@
 pub mod Packed
-pub mod Positions
 pub mod LoadLaws
 pub mod LineLaws
 pub mod ReplyRoom

@@ -21,7 +21,7 @@ use Rattle.calls.specs.Calls.{outcome, LoadCall}
 use Rattle.calls.specs.Numbers.{valuePlace}
 use Rattle.bench.specs.Exports.{returned}
 use Rattle.bench.proofs.Packed.{returned-is}
-use Rattle.bench.proofs.Positions.{bad-position}
+use Rattle.term.proofs.PositionLaws.{bad-position}
 
 module _ (module′ : List ℕ) (sizes : Sizes) (entry exit : List ℕ) (a : Loaded) (answers : LoadAnswers module′ sizes entry exit a) where
   returns-as : (r number value : ℕ) → number < valuePlace → r ≡ value * valuePlace + number → number ≡ numberOf a → value ≡ valueOf a → LoadCall module′ sizes entry (returned r exit)
