@@ -1,11 +1,12 @@
--- Laws of what is printed: by a reply, by the listing, and after a load.
+-- Laws of what is printed: by a reply, by the listing, and after a load; and that it is one text.
 use Prim.Native.Nat.{ℕ, _≤_}
 use mathlib.Core.Path.{_≡_, refl, sym, _∙_, ap, subst}
 use mathlib.Core.Logic.{_≢_, inl, inr}
 use mathlib.Core.Bool.{true, _&&_}
 use mathlib.Core.Option.{Option, none, some}
-use mathlib.Core.List.{List, [], _∷_, _++_, append-nil}
+use mathlib.Core.List.{List, [], _∷_, _++_, append-nil, List-discrete}
 use native.Mathlib.Omega.{arith}
+use native.Mathlib.Decide.{ℕ-discrete}
 use lib.Dec.{leb}
 use lib.ListN.{length, take, drop}
 use lib.Seq.{take-append-seam}
@@ -25,11 +26,12 @@ use Rattle.store.specs.Layout.{needed, image}
 use Rattle.store.specs.Image.{IsImage}
 use Rattle.store.specs.Loading.{Outcome, loadInto}
 use Rattle.store.specs.Loading as loading
+use Rattle.store.proofs.Laws.{image-laws}
 use Rattle.calls.specs.Calls.{outcome, countIn, stored, RequestCall, AskedCall, LineCall, written, ListingCall, LoadCall}
 use Rattle.calls.specs.Numbers.{numberOf, valueOf, TextCall, Lists}
 use Rattle.calls.specs.declared.answers.Answer.{Answer}
 use Rattle.bench.specs.Replied.{rollsBack, undoneBy, replyText, Replied}
-use Rattle.bench.specs.Prints.{Prints}
+use Rattle.bench.specs.Prints.{Prints, OneText}
 use Rattle.bench.proofs.LineLaws.{single-undone, refused-undone, rolled-undone}
 use Rattle.bench.proofs.AfterRequest.{sound-after, plan-undone, NotDone, rollback-not-done}
 
@@ -160,3 +162,26 @@ load-prints module′ sizes entry o lines text room empty call p = elim (true-or
       let l : load module′ sizes ≡ rules-load.refused badSizes 0 = rw (bad, load) refl in
       (subst (λ (x : Outcome). Prints (x .left) lines text) (call ∙ short) p) .elsewhere empty ∙ ap (λ (x : Load). afterLoad x lines) (sym l)
 ]
+
+-- ---- one text
+
+same-text : (store : List ℕ) (lines : List (List ℕ)) (text text′ : List ℕ) → Prints store lines text → Prints store lines text′ → text ≡ text′
+same-text store lines text text′ p q = elim (List-discrete ℕ-discrete text text′) [
+  | yes e ↦ e
+  | no differ ↦
+      let no-image : ¬ IsImage store = λ x. differ (p .on-image (x .state) (x .rest) (x .sound) (x .words) ∙ sym (q .on-image (x .state) (x .rest) (x .sound) (x .words))) in
+      absurd (differ (p .elsewhere no-image ∙ sym (q .elsewhere no-image)))
+]
+
+pub one-text : OneText
+one-text = record {
+  on-state = λ s rest lines sound. record {
+    on-image = λ s′ rest′ sound′ e. ap (λ (x : State). replies x lines) (image-laws .one-state s s′ rest rest′ sound sound′ e .0);
+    elsewhere = λ empty. absurd (empty (record { state = s; rest = rest; sound = sound; words = refl }));
+  };
+  without = λ store lines empty. record {
+    on-image = λ s rest sound e. absurd (empty (record { state = s; rest = rest; sound = sound; words = e }));
+    elsewhere = λ empty′. refl;
+  };
+  one = same-text;
+}
