@@ -8,7 +8,7 @@ use native.Mathlib.Omega.{arith}
 use native.Mathlib.Numerals.{add-one}
 use lib.ListN.{length, drop}
 use Rattle.lists.specs.Lists.{keep, joined, upTo}
-use Rattle.lists.proofs.Lists.{keep-nil}
+use Rattle.lists.proofs.Lists.{keep-nil, joined-last}
 use Rattle.rules.specs.State.{Letter, letter, Entry, State, historyAt}
 use Rattle.rules.specs.Flight.{sends, sent, hasCome, flies, inFlight, Name, name, flightOf, flight}
 use Rattle.rules.specs.Text.{spaced, line, bytes, lineFeed, space}
@@ -179,11 +179,6 @@ module _ (l : List ℕ) (s : ℕ) (first : Row) where
       rw m at (followed-then [] (namesBelow state s k) from first row old old new (followed-none from first old at before short) (f state rest x))
 
 -- ---- the names of all senders
-
-joined-last : {A : Type 0} (xs : List (List A)) (x : List A) → joined (xs ++ (x ∷ [])) ≡ joined xs ++ x
-unfolding joined
-joined-last [] x = append-nil x
-joined-last {A} (y ∷ ys) x = ap (λ (r : List A). y ++ r) (joined-last ys x) ∙ sym (append-assoc y (joined ys) x)
 
 texts-next : (state : State) (n : ℕ) → flyingTexts state n ++ map flightText (flightOf state n) ≡ flyingTexts state (n + 1)
 unfolding flyingTexts upTo

@@ -9,6 +9,7 @@ use native.Mathlib.Omega.{arith}
 use lib.Dec.{ltb}
 use lib.ListN.{length, length-append, length-map}
 use Rattle.lists.specs.Lists.{All, keep, joined, upTo}
+use Rattle.lists.proofs.Lists.{keep-fewer}
 use Rattle.lists.proofs.All.{all-any, all-append, all-map, all-so, all-joined, all-left}
 use Rattle.lists.proofs.Blocks.{block-in, length-upTo}
 use Rattle.rules.specs.State.{Message, Kind, seq, send, rec, spawn, self, check, Entry, Process, State, historyOf, historyAt, inPool}
@@ -67,15 +68,6 @@ joined-most m [] a = omega arith
 joined-most m (x ∷ xs) a = let h = a .0 in omega (arith, length-append x (joined xs), joined-most m xs (a .1), block-in (length xs) (suc (length xs)) m (omega arith))
 
 -- ---- names, kept ones and numbered ones
-
-keep-most : {A : Type 0} (test : A → Bool) (xs : List A) → length (keep test xs) ≤ length xs
-unfolding keep
-keep-most test [] = omega arith
-keep-most {A} test (x ∷ xs) = go (test x) (keep-most test xs)
-  where
-    go : (b : Bool) → length (keep test xs) ≤ length xs → length {A = A} (elim b as (λ y. List A) [ true ↦ x ∷ keep test xs | false ↦ keep test xs ]) ≤ suc (length xs)
-    go true h = omega arith
-    go false h = omega arith
 
 all-keep : {A : Type 0} (P : A → Type 0) (test : A → Bool) (xs : List A) → All P xs → All P (keep test xs)
 unfolding keep All
@@ -172,7 +164,7 @@ module _ (s : State) (sound : Sound s) where
   sender-few : (p : ℕ) → length (flightOf s p) ≤ 64
   unfolding flightOf
   sender-few p =
-      omega (arith, length-map (keep (inFlight s p) (upTo (sends (historyAt s p)))) (λ k. name p k), keep-most (inFlight s p) (upTo (sends (historyAt s p))), length-upTo (sends (historyAt s p)), sends-few (historyAt s p), few-entries p)
+      omega (arith, length-map (keep (inFlight s p) (upTo (sends (historyAt s p)))) (λ k. name p k), keep-fewer (inFlight s p) (upTo (sends (historyAt s p))), length-upTo (sends (historyAt s p)), sends-few (historyAt s p), few-entries p)
 
   flight-texts : All (λ n. AtMost 81 (flightText n)) (flight s)
   unfolding flight
@@ -204,7 +196,7 @@ module _ (s : State) (sound : Sound s) where
         line-length "processes=" (decimal (length (keep (inPool s) (upTo (s .sizes .places))))),
         line-length "flight=" (spaced (map flightText (flight s))),
         decimal-most (length (keep (inPool s) (upTo (s .sizes .places)))),
-        keep-most (inPool s) (upTo (s .sizes .places)),
+        keep-fewer (inPool s) (upTo (s .sizes .places)),
         length-upTo (s .sizes .places),
         few-places,
         flight-most,

@@ -11,7 +11,7 @@ use lib.Dec.{eqb}
 use lib.ListN.{length, length-append}
 use Rattle.lists.specs.Lists.{All, keep, joined, upTo}
 use Rattle.lists.proofs.Tests.{eqb-of, eqb-apart, cond-true}
-use Rattle.lists.proofs.Lists.{keep-nil, keep-true, keep-false}
+use Rattle.lists.proofs.Lists.{keep-nil, keep-true, keep-false, keep-append}
 use Rattle.lists.proofs.All.{maps-after, map-agree, all-so}
 use Rattle.rules.specs.State.{Message, Kind, seq, send, rec, spawn, self, check, Entry, Process, State, historyOf, historyAt, entryAt, inPool}
 use Rattle.rules.specs.Listing.{kindName, newestName, messageText, processLines}
@@ -102,21 +102,13 @@ module _ (l : List ℕ) (p count : ℕ) where
 -- ---- how many places are in the pool
 
 module _ (test : ℕ → Bool) where
-  keep-append : (xs ys : List ℕ) → keep test (xs ++ ys) ≡ keep test xs ++ keep test ys
-  keep-append [] ys = rw (keep-nil test) refl
-  keep-append (x ∷ xs) ys = go (test x) refl (keep-append xs ys)
-    where
-      go : (b : Bool) → test x ≡ b → keep test (xs ++ ys) ≡ keep test xs ++ keep test ys → keep test (x ∷ (xs ++ ys)) ≡ keep test (x ∷ xs) ++ keep test ys
-      go true e more = rw (keep-true test x (xs ++ ys) e, keep-true test x xs e) (ap (λ (r : List ℕ). x ∷ r) more)
-      go false e more = rw (keep-false test x (xs ++ ys) e, keep-false test x xs e) more
-
   pub kept-next : (n : ℕ) → test n ≡ true → keep test (upTo (n + 1)) ≡ keep test (upTo n) ++ (n ∷ [])
   unfolding upTo
-  kept-next n e = rw (add-one n) (keep-append (upTo n) (n ∷ []) ∙ ap (λ (r : List ℕ). keep test (upTo n) ++ r) (keep-true test n [] e ∙ ap (λ (r : List ℕ). n ∷ r) (keep-nil test)))
+  kept-next n e = rw (add-one n) (keep-append test (upTo n) (n ∷ []) ∙ ap (λ (r : List ℕ). keep test (upTo n) ++ r) (keep-true test n [] e ∙ ap (λ (r : List ℕ). n ∷ r) (keep-nil test)))
 
   pub kept-same : (n : ℕ) → test n ≡ false → keep test (upTo (n + 1)) ≡ keep test (upTo n) ++ []
   unfolding upTo
-  kept-same n e = rw (add-one n) (keep-append (upTo n) (n ∷ []) ∙ ap (λ (r : List ℕ). keep test (upTo n) ++ r) (keep-false test n [] e ∙ keep-nil test))
+  kept-same n e = rw (add-one n) (keep-append test (upTo n) (n ∷ []) ∙ ap (λ (r : List ℕ). keep test (upTo n) ++ r) (keep-false test n [] e ∙ keep-nil test))
 
 pub counted-none : (l : List ℕ) → OfState l (λ s. 0 ≡ length (keep (inPool s) (upTo 0)))
 unfolding OfState upTo

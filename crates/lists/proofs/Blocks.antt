@@ -9,6 +9,7 @@ use lib.ListN.{length, take, drop, getD, set, replicate, replicate-append-replic
 use lib.Seq.{take-at, drop-at, take-append-add, drop-append-add, getD-at, getD-set-same, getD-set-other, ext-getD, length-take-le, take-nil, take-take, take-add, drop-drop}
 use borrow.Rule.Slice.PartMut.{midOf, putMid}
 use Rattle.lists.specs.Lists.{All, joined, upTo}
+pub use Rattle.lists.specs.Lists.{chop}
 use Rattle.lists.proofs.All.{map-at}
 
 -- block p of n blocks ends within them
@@ -87,11 +88,6 @@ module _ {A : Type 0} where
 
   pub block-back-alone : (at count size i : ℕ) (bs : List (List A)) (b : List A) → at ≡ i * size → count ≡ size → Each size bs → i < length bs → putMid at count (joined bs) b ≡ joined (set bs i b)
   block-back-alone at count size i bs b a c e h = rw (append-nil (joined bs), append-nil (joined (set bs i b))) at (block-back at count size i bs [] b a c e h)
-
-  -- the first n blocks of a list, each of so many elements
-  unfoldable pub chop : (n size : ℕ) → List A → List (List A)
-  chop zero size l = []
-  chop (suc n) size l = take size l ∷ chop n size (drop size l)
 
   pub length-chop : (n size : ℕ) (l : List A) → length (chop n size l) ≡ n
   unfolding chop

@@ -3,6 +3,7 @@ use Prim.Native.Nat.{ℕ, zero, suc}
 use mathlib.Core.Bool.{Bool, true, false, _&&_, _||_}
 use mathlib.Core.List.{List, [], _∷_, _++_}
 use lib.Dec.{eqb}
+use lib.ListN.{take, drop}
 
 -- n stands in the list
 unfoldable pub member : ℕ → List ℕ → Bool
@@ -42,6 +43,11 @@ module _ {A : Type 0} where
   unfoldable pub joined : List (List A) → List A
   joined [] = []
   joined (x ∷ xs) = x ++ joined xs
+
+  -- the first n blocks of a list, each of so many elements
+  unfoldable pub chop : (n size : ℕ) → List A → List (List A)
+  chop zero size l = []
+  chop (suc n) size l = take size l ∷ chop n size (drop size l)
 
   -- every element has the property
   unfoldable pub All : (A → Type 0) → List A → Type 0

@@ -4,7 +4,6 @@ use mathlib.Core.Path.{_≡_, refl, sym, _∙_, ap, subst}
 use mathlib.Core.Logic.{_⊎_, inl, inr}
 use mathlib.Core.Option.{some}
 use mathlib.Core.List.{List, [], _∷_, _++_}
-use native.Mathlib.Decide.{decLt}
 use native.Mathlib.Omega.{arith}
 use lib.ListN.{length, length-append, length-drop}
 use Rattle.lists.proofs.Tests.{true-not-false, some-injective}
@@ -22,7 +21,7 @@ use Rattle.rules.proofs.EventDepends.{Like, stands-entry, stands-low, entry-sta
 use Rattle.rules.proofs.CutNumbers.{seen-is}
 use Rattle.store.specs.Layout.{kindNumber, numberIn, kindSend, kindRec, kindSpawn, nameBase, nameWord}
 use Rattle.store.specs.Image.{IsImage}
-use Rattle.store.proofs.SoundStates.{sizes-in, numbered}
+use Rattle.store.proofs.SoundStates.{sizes-in, in-places, numbered}
 use Rattle.reading.specs.Reads.{Holds, OfState, IsPlace, IsEntry, OfEntry, IsSend, OfSend, oldest}
 use Rattle.reading.proofs.Oldest.{send-by-kind, rec-by-kind, parted}
 use Rattle.reading.proofs.MailReads.{sends-low}
@@ -295,10 +294,7 @@ module _ (store : List ℕ) (p i : ℕ) (there : OfState store (IsEntry p i)) wh
   pub target-place : (t : ℕ) → OfState store (IsKind p i kindSend) → OfState store (OfSend p i (λ target value. t ≡ target)) → OfState store (IsPlace t)
   target-place t kind aimed = with-stands (IsPlace t) λ s rest holds e g st.
       let (v, is) = target-at t 0 kind aimed s rest holds e g st in
-      elim (decLt t (s .sizes .places)) [
-        | yes h ↦ h
-        | no h ↦ true-not-false (holds .sound .targets-in-pool p (sends g) t v (suffix-sent (st .at) is)) (holds .sound .pool-ends t (omega (arith, h)))
-      ]
+      in-places s (holds .sound) t (holds .sound .targets-in-pool p (sends g) t v (suffix-sent (st .at) is))
 
 pub sends-few : (store : List ℕ) (p i c : ℕ) → IsImage store → OfState store (λ s. c ≡ sends (oldest i (historyAt s p))) → c ≤ mostEntries
 unfolding OfState

@@ -26,18 +26,6 @@ module _ (store : List ℕ) (is-image : IsImage store) where
   abbrev one : Holds store (is-image .state) (is-image .rest)
   one = record { sound = is-image .sound; words = is-image .words }
 
-  pub place-low : (p : ℕ) → OfState store (IsPlace p) → p < mostPlaces
-  unfolding OfState
-  place-low p is-place = omega (arith, is-place (is-image .state) (is-image .rest) one, sizes-in (is-image .state .sizes) (is-image .sound .sizes-pass) .places-high)
-
-  pub end-low : (p end : ℕ) → OfState store (λ s. end ≡ length (historyAt s p)) → end ≤ mostEntries
-  unfolding OfState
-  end-low p end ends = omega (arith, ends (is-image .state) (is-image .rest) one, is-image .sound .history-fits p, sizes-in (is-image .state .sizes) (is-image .sound .sizes-pass) .entries-high)
-
-  pub places-low : (end : ℕ) → OfState store (λ s. end ≡ s .sizes .places) → end ≤ mostPlaces
-  unfolding OfState
-  places-low end ends = omega (arith, ends (is-image .state) (is-image .rest) one, sizes-in (is-image .state .sizes) (is-image .sound .sizes-pass) .places-high)
-
   pub entry-low : (p i : ℕ) → OfState store (IsEntry p i) → (p < mostPlaces) × (i < mostEntries)
   unfolding OfState
   entry-low p i there-is =

@@ -8,10 +8,10 @@ use native.Mathlib.Omega.{arith}
 use native.Mathlib.Decide.{decLt}
 use lib.Dec.{eqb}
 use lib.ListN.{length, set}
-use Rattle.lists.proofs.Tests.{true-not-false}
 use Rattle.rules.specs.Answers.{done, noProcess, held, noCheckpoint}
 use Rattle.rules.specs.State.{Kind, seq, send, rec, spawn, self, check, asSpawn, asCheck, Entry, State, historyAt, entryAt, inPool}
 use Rattle.rules.specs.Sound.{Sound}
+use Rattle.rules.specs.Line.{rollbackTo}
 use Rattle.rules.specs.Replies.{ofRollback, perform}
 use Rattle.rules.specs.Depends.{Line, entriesOf, deliveriesTo, level}
 use Rattle.rules.specs.Standing.{Suffix, whole, Stands}
@@ -24,9 +24,11 @@ use Rattle.rules.proofs.Cut.{placeOf, place-below}
 use Rattle.rules.proofs.Rollback.{newest-true, newest-false, newest-low, rollback-away, rollback-without, rollback-at}
 use Rattle.store.specs.Layout.{kindNumber, numberIn, kindCheck, image}
 use Rattle.store.specs.Image.{IsImage}
-use Rattle.store.proofs.SoundStates.{sizes-in}
-use Rattle.calls.specs.Calls.{countIn, outcome, stored, RequestCall}
-use Rattle.calls.specs.Numbers.{numberOf, valueOf, Performs, RollbackCall}
+use Rattle.store.proofs.SoundStates.{sizes-in, in-places}
+use Rattle.calls.specs.Calls.{countIn, outcome, stored}
+use Rattle.calls.specs.Numbers.{numberOf, valueOf, RollbackCall}
+use Rattle.calls.specs.Answering.{Answers}
+use Rattle.calls.proofs.Answering.{request-refused, request-answered}
 use Rattle.calls.specs.declared.answers.Answer.{Answer}
 use Rattle.calls.specs.declared.answers.Answer.the-variants.{NoProcess, NoCheckpoint, NotAState}
 use Rattle.reading.specs.Reads.{Holds, OfState, IsPlace, IsEntry, OfEntry}
@@ -52,10 +54,7 @@ module _ {s : State} (sound : Sound s) where
   entry-low {p} st = event-low (entriesOf p) (stands-low st)
 
   child-low : {p q i : ℕ} {e : Entry} {g : List Entry} → Stands s p i e g → asSpawn (e .kind) ≡ some q → 2 * q < lineCount
-  child-low {p} {q} st is = elim (decLt q (s .sizes .places)) [
-    | yes h ↦ omega (arith, h, few-places)
-    | no h ↦ true-not-false (child-lives sound p (st .at) is) (sound .pool-ends q (omega (arith, h)))
-  ]
+  child-low {p} {q} st is = omega (arith, in-places s sound q (child-lives sound p (st .at) is), few-places)
 
   ties-low : {x y : Line} {a b : ℕ} → Ties s x a y b → (lineNumber x < lineCount) × (lineNumber y < lineCount)
   ties-low (of-rec st is e) = (entry-low st, (let h = entry-low st in omega (arith, h)))
@@ -221,17 +220,14 @@ module _ (store : List ℕ) (p t : ℕ) where
       go (e ∷ l) c w = absurd (omega (arith, c, h))
 
 -- ---- the four answers
-abbrev Goes : (p t : ℕ) (entry exit : List ℕ) → Answer → Type 0
-Goes p t entry exit r = (s : State) (rest : List ℕ) → Holds entry s rest → outcome (numberOf r) (valueOf r) exit ≡ stored (ofRollback s (rollback p t s)) rest
-
 module _ (p t : ℕ) (entry : List ℕ) where
-  call-of : (exit : List ℕ) (r : Answer) → IsImage entry → Goes p t entry exit r → RollbackCall p t entry exit r
-  unfolding RollbackCall Performs RequestCall perform
-  call-of exit r is-image f = record { on-image = λ s rest sound words. f s rest (record { sound = sound; words = words }); elsewhere = λ n. absurd (n is-image) }
+  call-of : (exit : List ℕ) (r : Answer) → IsImage entry → Answers (rollbackTo p t) entry exit r → RollbackCall p t entry exit r
+  unfolding RollbackCall
+  call-of exit r is-image f = request-answered (rollbackTo p t) entry exit r is-image f
 
   pub call-elsewhere : ¬ IsImage entry → RollbackCall p t entry entry NotAState
-  unfolding RollbackCall Performs RequestCall numberOf valueOf
-  call-elsewhere n = record { on-image = λ s rest sound words. absurd (n (record { state = s; rest = rest; sound = sound; words = words })); elsewhere = λ _. refl }
+  unfolding RollbackCall
+  call-elsewhere n = request-refused (rollbackTo p t) entry n
 
   refused-as : (r : Answer) (number : ℕ) → numberOf r ≡ number → valueOf r ≡ 0 → (s : State) (rest : List ℕ) → Holds entry s rest → rollback p t s ≡ refused number
       → outcome (numberOf r) (valueOf r) entry ≡ stored (ofRollback s (rollback p t s)) rest
@@ -240,11 +236,11 @@ module _ (p t : ℕ) (entry : List ℕ) where
       (λ i. outcome (e i) (v i) (holds .words i)) ∙ sym (ap (λ b. stored (ofRollback s b) rest) is)
 
   pub call-away : {r : Bool} → IsImage entry → OfState entry (λ s. r ≡ inPool s p) → r ≡ false → RollbackCall p t entry entry NoProcess
-  unfolding OfState numberOf valueOf
+  unfolding OfState Answers perform numberOf valueOf
   call-away is-image pool e = call-of entry NoProcess is-image λ s rest holds. refused-as NoProcess noProcess refl refl s rest holds (rollback-away p t s (sym (pool s rest holds) ∙ e))
 
   pub call-without : {r : Bool} → IsImage entry → OfState entry (λ s. r ≡ inPool s p) → r ≡ true → OfState entry (FindsCheck p t Nowhere) → RollbackCall p t entry entry NoCheckpoint
-  unfolding OfState FindsCheck numberOf valueOf
+  unfolding OfState FindsCheck Answers perform numberOf valueOf
   call-without is-image pool e found =
       call-of entry NoCheckpoint is-image λ s rest holds. refused-as NoCheckpoint noCheckpoint refl refl s rest holds (rollback-without p t s (sym (pool s rest holds) ∙ e) (found s rest holds))
 
@@ -255,7 +251,7 @@ module _ (p t : ℕ) (entry : List ℕ) where
 
   pub call-back : (i : ℕ) (exit : List ℕ) (r : Answer) {live : Bool} → IsImage entry → OfState entry (λ s. live ≡ inPool s p) → live ≡ true → OfState entry (FindsCheck p t (At i)) → OfWords entry (EventBack (2 * p) i exit r)
       → RollbackCall p t entry exit r
-  unfolding OfState FindsCheck OfWords EventBack
+  unfolding OfState FindsCheck OfWords EventBack Answers perform
   call-back i exit r is-image pool e found backs = call-of exit r is-image λ s rest holds.
       let b = backs s rest holds (entriesOf p) refl in
       let is = rollback-at p t s (sym (pool s rest holds) ∙ e) (found s rest holds) in
@@ -264,7 +260,7 @@ module _ (p t : ℕ) (entry : List ℕ) where
   -- what the parts need
   pub call-place : {r : Bool} → OfState entry (λ s. r ≡ inPool s p) → r ≡ true → OfState entry (IsPlace p)
   unfolding OfState
-  call-place pool e s rest holds = elim (decLt p (s .sizes .places)) [ yes h ↦ h | no h ↦ true-not-false (sym (pool s rest holds) ∙ e) (holds .sound .pool-ends p (omega (arith, h))) ]
+  call-place pool e s rest holds = in-places s (holds .sound) p (sym (pool s rest holds) ∙ e)
 
   pub call-happens : (i : ℕ) → OfState entry (FindsCheck p t (At i)) → OfState entry (Happens (2 * p) i)
   unfolding OfState FindsCheck level

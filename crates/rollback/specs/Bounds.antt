@@ -1,12 +1,7 @@
 -- How many numbers a rollback goes by, at most. 01: "P process places, 1 to 16; H history entries for each process, 1 to 64". Assumes
 -- nothing: these are definitions.
 use Prim.Native.Nat.{ℕ, _+_, _*_}
-
-abbrev pub mostPlaces : ℕ
-mostPlaces = 16
-
-abbrev pub mostEntries : ℕ
-mostEntries = 64
+pub use Rattle.store.specs.Layout.{mostPlaces, mostEntries}
 
 -- a place has two lines of events: its entries, and the deliveries to it
 abbrev pub lineCount : ℕ

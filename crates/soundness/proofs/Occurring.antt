@@ -5,6 +5,7 @@ use mathlib.Core.List.{List, [], _∷_, _++_, map, map-append, append-assoc, app
 use native.Mathlib.Decide.{ℕ-discrete}
 use native.Mathlib.Omega.{arith}
 use Rattle.lists.specs.Lists.{All, joined}
+use Rattle.lists.proofs.Lists.{joined-append}
 use Rattle.lists.proofs.Counts.{occurs, occurs-append, occurs-head, occurs-other, occurs-more}
 
 -- what occurs has what all have, and all have what each that occurs has
@@ -23,11 +24,6 @@ module _ (P : ℕ → Type 0) where
   all-occurring (x ∷ cs) f = (f x (omega (arith, occurs-head x cs)), all-occurring cs (λ c h. f c (omega (arith, h, occurs-more c x cs))))
 
 -- joined lists
-pub joined-append : {A : Type 0} (xss yss : List (List A)) → joined (xss ++ yss) ≡ joined xss ++ joined yss
-unfolding joined
-joined-append [] yss = refl
-joined-append (xs ∷ xss) yss = ap (λ z. xs ++ z) (joined-append xss yss) ∙ sym (append-assoc xs (joined xss) (joined yss))
-
 module _ {A X : Type 0} (g : A → List X) where
   -- one element more
   pub collect-snoc : (xs : List A) (x : A) → joined (map g (xs ++ (x ∷ []))) ≡ joined (map g xs) ++ g x

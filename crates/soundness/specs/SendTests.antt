@@ -6,8 +6,7 @@ use mathlib.Core.Option.{Option, none, some}
 use mathlib.Core.List.{List, [], _∷_}
 use lib.Dec.{eqb}
 use lib.ListN.{length, drop, getD, set}
-use Rattle.lists.specs.Lists.{All}
-use Rattle.lists.proofs.Blocks.{chop}
+use Rattle.lists.specs.Lists.{All, chop}
 use Rattle.term.specs.Read.{termOf, termsOf}
 use Rattle.machine.specs.Work.{Work, finished, stuck, toSeq, toSend, toReceive, toSpawn, toSelf, toCheck, work}
 use Rattle.step.specs.Controls.{ControlIs}

@@ -6,8 +6,7 @@ use mathlib.Core.Option.{Option, none, some}
 use mathlib.Core.List.{List, [], _∷_, _++_}
 use lib.Dec.{eqb, leb, ltb}
 use lib.ListN.{length, take, drop, getD, set, replicate}
-use Rattle.lists.specs.Lists.{All}
-use Rattle.lists.proofs.Blocks.{chop}
+use Rattle.lists.specs.Lists.{All, chop}
 use Rattle.term.specs.Control.{goodControl}
 use Rattle.store.specs.Layout.{slotHead, mostPlaces, nameBase, kindFree, kindSeq, kindSend, kindRec, kindSpawn, kindSelf, kindCheck, kindLive}
 

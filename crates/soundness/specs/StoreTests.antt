@@ -6,9 +6,8 @@ use mathlib.Core.Option.{none, some}
 use mathlib.Core.List.{List}
 use borrow.Rule.Slice.PartMut.{midOf}
 use lib.ListN.{getD, replicate}
-use Rattle.lists.specs.Lists.{All}
+use Rattle.lists.specs.Lists.{All, chop}
 use Rattle.lists.specs.Decides.{Decides}
-use Rattle.lists.proofs.Blocks.{chop}
 use Rattle.term.specs.Module.{checkModule}
 use Rattle.term.specs.Control.{moduleArities}
 use Rattle.store.specs.Layout.{blocksFrom, slotSize, blockSize, mostPlaces, mostNames, kindFree}

@@ -5,8 +5,7 @@ ghost use mathlib.Core.Path.{_≡_};
 ghost use mathlib.Core.List.{[]};
 ghost use Prim.Native.Nat.{_≤_, _*_};
 ghost use lib.ListN.{length, drop};
-ghost use Rattle.lists.specs.Lists.{All};
-ghost use Rattle.lists.proofs.Blocks.{chop};
+ghost use Rattle.lists.specs.Lists.{All, chop};
 ghost use Rattle.soundness.specs.SoundTests.{NamesFit, Slots, Block, namesIn, begins as beginsWith, leftBegins, flowsOn, everyOf, placeFlows};
 
 // Whether a list of words begins with another.

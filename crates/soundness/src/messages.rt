@@ -4,8 +4,7 @@ use store::layout::SLOT_HEAD;
 ghost use mathlib.Core.Path.{_≡_};
 ghost use Prim.Native.Nat.{_*_, _<_, _≤_};
 ghost use lib.ListN.{length, drop};
-ghost use Rattle.lists.specs.Lists.{All};
-ghost use Rattle.lists.proofs.Blocks.{chop};
+ghost use Rattle.lists.specs.Lists.{All, chop};
 ghost use Rattle.store.specs.Layout.{mostPlaces, mostEntries};
 ghost use Rattle.soundness.specs.SoundTests.{Slots, answered, TakenFits, arriveOne, arriveAll, arriveSlot, arriveTaken, TakenBlock, arrivePlace, arriveFrom};
 

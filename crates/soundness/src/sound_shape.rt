@@ -12,8 +12,7 @@ use term::control::check_control;
 ghost use mathlib.Core.Path.{_≡_};
 ghost use Prim.Native.Nat.{_≤_, _*_};
 ghost use lib.ListN.{length, drop};
-ghost use Rattle.lists.specs.Lists.{All};
-ghost use Rattle.lists.proofs.Blocks.{chop};
+ghost use Rattle.lists.specs.Lists.{All, chop};
 ghost use Rattle.store.specs.Layout.{slotHead};
 ghost use Rattle.soundness.specs.SoundTests.{ControlFits, Slots, plainSlot, presentSlot, entrySlot, controlPasses, entryPasses, entriesPass, ControlBlock, placePasses, everyOf};
 

@@ -8,7 +8,8 @@ use native.Mathlib.Omega.{arith}
 use lib.ListN.{length}
 use borrow.Author.Needs.{needs}
 use Rattle.rollback.proofs.ArrivalReads.{LeftIs, Unshown, left-start, unshown-start, left-more, unshown-more, shown-here, queued-here, queued-nowhere}
-use Rattle.rollback.proofs.LinkWhole.{entry-upto, end-upto, end-low}
+use Rattle.reading.proofs.StateReads.{entries-few}
+use Rattle.rollback.proofs.LinkWhole.{entry-upto, end-upto}
 use Rattle.rollback.proofs.arrivals.arrival.Statement.{statement}
 use Rattle.rollback.proofs.arrivals.arrival.Tie as tie
 
@@ -52,7 +53,7 @@ recs-before-requires : tie.Need-recs-before-requires Inv-loop μ-loop
 recs-before-requires c κs = (c .before .before .before .before .before .before .before .before .before .pre .0, entry-upto _ _ _ (end-entry _ _ _ _ (c .before .before .before .before .before .before .before .entry-count .ensures) (c .before .before .before .before .before .loop-test .taken)))
 
 add-t13 : tie.Need-add-t13 Inv-loop μ-loop
-add-t13 c = let h = inside (c .before) in let g = end-low _ (c .before .before .before .before .before .before .before .before .before .before .pre .0) _ _ (c .before .before .before .before .before .before .before .before .entry-count .ensures) in omega (arith, h, g, c .recs-before .ensures .1)
+add-t13 c = let h = inside (c .before) in let g = entries-few _ (c .before .before .before .before .before .before .before .before .before .before .pre .0) _ _ (c .before .before .before .before .before .before .before .before .entry-count .ensures) in omega (arith, h, g, c .recs-before .ensures .1)
 
 returns : tie.Need-returns Inv-loop μ-loop
 returns c = shown-here (c .before .before .before .before .before .before .before .before .before .before .args .store .now) (c .before .before .before .before .before .before .before .before .before .before .args .q) (c .before .before .before .before .before .before .before .loop .i) (c .before .before .before .before .before .before .before .loop .left) (c .before .before .before .before .before .before .before .before .before .before .args .name) (c .before .before .before .before .before .queue-before .result .now) (end-entry _ _ _ _ (c .before .before .before .before .before .before .before .before .entry-count .ensures) (c .before .before .before .before .before .before .loop-test .taken)) (c .before .before .before .before .before .before .before .loop .inv .1) (c .before .before .before .before .before .queue-before .ensures) _ _ (placed (c .before)) (c .recs-before .ensures .0)
@@ -100,7 +101,7 @@ recs-before-requires-2 : tie.Need-recs-before-requires-2 Inv-loop μ-loop
 recs-before-requires-2 c κs = (c .before .before .before .before .before .before .before .before .before .pre .0, end-upto _ _ _ (c .before .before .before .before .before .before .before .entry-count .ensures))
 
 add-t17 : tie.Need-add-t17 Inv-loop μ-loop
-add-t17 c = let h = inside-2 (c .before) in let g = end-low _ (c .before .before .before .before .before .before .before .before .before .before .pre .0) _ _ (c .before .before .before .before .before .before .before .before .entry-count .ensures) in omega (arith, h, g, c .recs-before2 .ensures .1)
+add-t17 c = let h = inside-2 (c .before) in let g = entries-few _ (c .before .before .before .before .before .before .before .before .before .before .pre .0) _ _ (c .before .before .before .before .before .before .before .before .entry-count .ensures) in omega (arith, h, g, c .recs-before2 .ensures .1)
 
 returns-3 : tie.Need-returns-3 Inv-loop μ-loop
 returns-3 c =

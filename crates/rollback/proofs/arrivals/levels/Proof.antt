@@ -4,7 +4,8 @@ use Prim.Native.Nat.{_-_, _≤_}
 use native.Mathlib.Omega.{arith}
 use borrow.Author.Needs.{needs}
 use Rattle.rollback.specs.Bounds.{mostPlaces}
-use Rattle.rollback.proofs.LinkWhole.{places-low, Filled, filled-start, filled-more, filled-done, end-low, come-low}
+use Rattle.reading.proofs.StateReads.{places-few, entries-few}
+use Rattle.rollback.proofs.LinkWhole.{Filled, filled-start, filled-more, filled-done, come-low}
 use Rattle.rollback.proofs.arrivals.levels.Statement.{statement}
 use Rattle.rollback.proofs.arrivals.levels.Tie as tie
 
@@ -19,7 +20,7 @@ places-requires : tie.Need-places-requires Inv-loop μ-loop
 places-requires c κs = search needs
 
 loop-holds : tie.Need-loop-holds Inv-loop μ-loop
-loop-holds c = (omega arith, places-low _ (c .before .before .pre) _ (c .places .ensures), filled-start _)
+loop-holds c = (omega arith, places-few _ (c .before .before .pre) _ (c .places .ensures), filled-start _)
 
 entry-count-requires : tie.Need-entry-count-requires Inv-loop μ-loop
 entry-count-requires c κs = (c .before .before .before .before .pre, end-place _ _ _ (c .before .before .places .ensures) (c .loop-test .taken))
@@ -58,7 +59,7 @@ loop-again : tie.Need-loop-again Inv-loop μ-loop
 loop-again c = (
   omega arith,
   c .before .before .before .loop .inv .1,
-  filled-more _ (c .before .before .before .loop .p) _ _ (c .before .before .before .loop .levels) (c .before .before .before .loop .inv .2) (search needs) (end-low _ (c .before .before .before .before .before .before .pre) _ _ (c .before .entry-count .ensures)) (come-low _ (c .before .before .before .before .before .before .pre) _ _ (c .come-count .ensures)) (c .before .entry-count .ensures) (c .come-count .ensures),
+  filled-more _ (c .before .before .before .loop .p) _ _ (c .before .before .before .loop .levels) (c .before .before .before .loop .inv .2) (search needs) (entries-few _ (c .before .before .before .before .before .before .pre) _ _ (c .before .entry-count .ensures)) (come-low _ (c .before .before .before .before .before .before .pre) _ _ (c .come-count .ensures)) (c .before .entry-count .ensures) (c .come-count .ensures),
 )
 
 returns : tie.Need-returns Inv-loop μ-loop

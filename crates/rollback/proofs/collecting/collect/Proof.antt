@@ -6,7 +6,8 @@ use Rattle.reading.proofs.FlightReads.{end-place}
 use Rattle.rollback.specs.Bounds.{linksOfPlace}
 use Rattle.rollback.specs.Listed.{OfSort, BelowPlace, Adds}
 use Rattle.rollback.proofs.LinkAdds.{adds-most, place-none, place-more}
-use Rattle.rollback.proofs.LinkWhole.{places-low, place-all}
+use Rattle.reading.proofs.StateReads.{places-few}
+use Rattle.rollback.proofs.LinkWhole.{place-all}
 use Rattle.rollback.proofs.collecting.collect.Statement.{statement}
 use Rattle.rollback.proofs.collecting.collect.Tie as tie
 
@@ -24,7 +25,7 @@ loop-holds : tie.Need-loop-holds Inv-loop μ-loop
 loop-holds c = (omega arith, place-none _ _ _ _)
 
 collect-place-requires : tie.Need-collect-place-requires Inv-loop μ-loop
-collect-place-requires c κs = let g = places-low _ (c .before .before .before .before .before .before .pre .0) _ (c .before .before .before .places .ensures) in let u = c .before .before .loop .inv .1 in (c .before .before .before .before .before .before .pre .0, end-place _ _ _ (c .before .before .before .places .ensures) (c .before .loop-test .taken), omega (arith, g, u .high, u .long, c .before .before .before .before .before .before .pre .1))
+collect-place-requires c κs = let g = places-few _ (c .before .before .before .before .before .before .pre .0) _ (c .before .before .before .places .ensures) in let u = c .before .before .loop .inv .1 in (c .before .before .before .before .before .before .pre .0, end-place _ _ _ (c .before .before .before .places .ensures) (c .before .loop-test .taken), omega (arith, g, u .high, u .long, c .before .before .before .before .before .before .pre .1))
 
 add-p : tie.Need-add-p Inv-loop μ-loop
 add-p c = search needs
@@ -39,7 +40,7 @@ same-length : tie.Need-same-length Inv-loop μ-loop
 same-length c = c .before .loop .inv .1 .long
 
 returns : tie.Need-returns Inv-loop μ-loop
-returns c = let g = places-low _ (c .before .before .before .before .before .pre .0) _ (c .before .before .places .ensures) in adds-most (omega (arith, g, c .before .loop .inv .0)) (place-all _ (c .before .before .before .before .before .args .sort) _ _ _ _ _ _ _ (c .before .before .places .ensures) (c .loop-test .left) (c .before .loop .inv .1))
+returns c = let g = places-few _ (c .before .before .before .before .before .pre .0) _ (c .before .before .places .ensures) in adds-most (omega (arith, g, c .before .loop .inv .0)) (place-all _ (c .before .before .before .before .before .args .sort) _ _ _ _ _ _ _ (c .before .before .places .ensures) (c .loop-test .left) (c .before .loop .inv .1))
 
 pub collect-spec : {M : Type 1} → statement M
 collect-spec =

@@ -6,7 +6,8 @@ use Rattle.reading.proofs.MailReads.{end-entry}
 use Rattle.rollback.specs.Bounds.{linksEach}
 use Rattle.rollback.specs.Listed.{OfSort, Below, Adds}
 use Rattle.rollback.proofs.LinkAdds.{below-none, below-more, below-all, adds-most}
-use Rattle.rollback.proofs.LinkWhole.{end-low, sort-inside}
+use Rattle.reading.proofs.StateReads.{entries-few}
+use Rattle.rollback.proofs.LinkWhole.{sort-inside}
 use Rattle.rollback.proofs.collecting.collect_place.Statement.{statement}
 use Rattle.rollback.proofs.collecting.collect_place.Tie as tie
 
@@ -24,7 +25,7 @@ loop-holds : tie.Need-loop-holds Inv-loop μ-loop
 loop-holds c = (omega arith, below-none _ _ _ _ _)
 
 collect-entry-requires : tie.Need-collect-entry-requires Inv-loop μ-loop
-collect-entry-requires c κs = let g = end-low _ (c .before .before .before .before .before .before .pre .0) _ _ (c .before .before .before .entry-count .ensures) in let u = c .before .before .loop .inv .1 in (c .before .before .before .before .before .before .pre .0, (end-entry _ _ _ _ (c .before .before .before .entry-count .ensures) (c .before .loop-test .taken)), omega (arith, g, u .high, u .long, c .before .before .before .before .before .before .pre .2))
+collect-entry-requires c κs = let g = entries-few _ (c .before .before .before .before .before .before .pre .0) _ _ (c .before .before .before .entry-count .ensures) in let u = c .before .before .loop .inv .1 in (c .before .before .before .before .before .before .pre .0, (end-entry _ _ _ _ (c .before .before .before .entry-count .ensures) (c .before .loop-test .taken)), omega (arith, g, u .high, u .long, c .before .before .before .before .before .before .pre .2))
 
 add-i : tie.Need-add-i Inv-loop μ-loop
 add-i c = search needs
@@ -39,7 +40,7 @@ same-length : tie.Need-same-length Inv-loop μ-loop
 same-length c = c .before .loop .inv .1 .long
 
 returns : tie.Need-returns Inv-loop μ-loop
-returns c = let g = end-low _ (c .before .before .before .before .before .pre .0) _ _ (c .before .before .entry-count .ensures) in adds-most (omega (arith, g, c .before .loop .inv .0)) (below-all _ _ (c .before .before .before .before .before .args .p) _ _ _ _ _ _ _ (sort-inside (c .before .before .before .before .before .args .sort) (c .before .before .before .before .before .args .p)) (c .before .before .entry-count .ensures) (c .loop-test .left) (c .before .loop .inv .1))
+returns c = let g = entries-few _ (c .before .before .before .before .before .pre .0) _ _ (c .before .before .entry-count .ensures) in adds-most (omega (arith, g, c .before .loop .inv .0)) (below-all _ _ (c .before .before .before .before .before .args .p) _ _ _ _ _ _ _ (sort-inside (c .before .before .before .before .before .args .sort) (c .before .before .before .before .before .args .p)) (c .before .before .entry-count .ensures) (c .loop-test .left) (c .before .loop .inv .1))
 
 pub collect-place-spec : {M : Type 1} → statement M
 collect-place-spec =
