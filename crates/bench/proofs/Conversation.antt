@@ -5,7 +5,7 @@ use mathlib.Core.List.{List, [], _∷_, _++_, append-assoc}
 use native.Mathlib.Omega.{arith}
 use Rattle.rules.specs.Bench.{bench}
 use Rattle.bench.specs.Prints.{Prints}
-use Rattle.bench.specs.Conversation.{Conversation, silent, answered, Listed, Session, ProgramOfCalls}
+use Rattle.bench.specs.Conversation.{Conversation, silent, answered, Listed, Dialogue, ProgramOfCalls}
 use Rattle.bench.proofs.ReplyRoom.{text-taken}
 use Rattle.bench.proofs.PrintsLaws.{reply-prints, listing-prints, load-prints}
 
@@ -21,7 +21,7 @@ conversation-prints entry (line ∷ lines) exit printed text (answered {mid = mi
 pub listed-prints : (store text : List ℕ) → Listed store text → Prints store [] text
 listed-prints store text l = subst (Prints store []) (sym (l .printed-is)) (listing-prints store (l .old) (l .new) (l .answer) (l .call) (l .room))
 
-session-prints : (entry : List ℕ) (lines : List (List ℕ)) (printed : List ℕ) → Session entry lines printed → Prints entry lines printed
+session-prints : (entry : List ℕ) (lines : List (List ℕ)) (printed : List ℕ) → Dialogue entry lines printed → Prints entry lines printed
 session-prints entry lines printed z =
     subst (Prints entry lines) (sym (z .printed-is)) (conversation-prints entry lines (z .exit) (z .replies-said) (z .listing-said) (z .conversation) (listed-prints (z .exit) (z .listing-said) (z .listed)))
 

@@ -2,6 +2,7 @@ pub mod Packed
 pub mod LoadLaws
 pub mod LineLaws
 pub mod ReplyRoom
+pub mod OneReply
 pub mod AfterRequest
 pub mod PrintsLaws
 pub mod Conversation

@@ -7,30 +7,14 @@ use Rattle.store.specs.Loading.{Outcome}
 use Rattle.calls.specs.Calls.{outcome, RequestCall, LineCall, ListingCall}
 use Rattle.calls.specs.Numbers.{numberOf, valueOf, Performs, CommandCall, RollbackCall, TextCall, Lists, valuePlace, packed}
 use Rattle.calls.specs.declared.answers.Answer.{Answer}
-use Rattle.calls.specs.declared.answers.Answer.the-variants.{Done, NoProcess, Finished, Waiting, Stuck, WrongCommand, PlaceTaken, TooLarge, HistoryFull, NoMessage, NothingToUndo, Held, NoCheckpoint, NotAState, NoRoom, BadLine}
 use Rattle.calls.proofs.Determined.{determined}
+use Rattle.calls.proofs.AnswerNumbers.{number-below}
 use Rattle.rules.specs.Commands.{Command}
 use Rattle.rules.specs.Line.{single, rollbackTo}
 use Rattle.bench.specs.Exports.{returned, ExportsDetermined}
 
 number-small : (a : Answer) → numberOf a < valuePlace
-unfolding numberOf
-number-small (Done count) = omega arith
-number-small NoProcess = omega arith
-number-small Finished = omega arith
-number-small Waiting = omega arith
-number-small Stuck = omega arith
-number-small WrongCommand = omega arith
-number-small PlaceTaken = omega arith
-number-small TooLarge = omega arith
-number-small HistoryFull = omega arith
-number-small NoMessage = omega arith
-number-small NothingToUndo = omega arith
-number-small Held = omega arith
-number-small NoCheckpoint = omega arith
-number-small NotAState = omega arith
-number-small NoRoom = omega arith
-number-small BadLine = omega arith
+number-small a = omega (arith, number-below a)
 
 -- a number and a value, taken out again
 pub returned-is : (r number value : ℕ) (left : List ℕ) → number < valuePlace → r ≡ value * valuePlace + number → returned r left ≡ outcome number value left

@@ -16,7 +16,7 @@ use Rattle.text.specs.Written.{Wrote}
 use Rattle.text.proofs.WritingLaws.{wrote-fits}
 use Rattle.calls.specs.Numbers.{numberOf, valuePlace}
 use Rattle.calls.specs.declared.answers.Answer.{Answer}
-use Rattle.calls.specs.declared.answers.Answer.the-variants.{Done, NoProcess, Finished, Waiting, Stuck, WrongCommand, PlaceTaken, TooLarge, HistoryFull, NoMessage, NothingToUndo, Held, NoCheckpoint, NotAState, NoRoom, BadLine}
+use Rattle.calls.proofs.AnswerNumbers.{number-below}
 use Rattle.bench.specs.Replied.{undoneBy, replyText, replyRoom}
 
 -- ---- the length of a number
@@ -50,25 +50,6 @@ number-length key n k text e h =
     omega (arith, a, b, c, e)
 
 -- ---- the length of a reply
-
-number-below : (a : Answer) → numberOf a < 100
-unfolding numberOf
-number-below (Done count) = omega arith
-number-below NoProcess = omega arith
-number-below Finished = omega arith
-number-below Waiting = omega arith
-number-below Stuck = omega arith
-number-below WrongCommand = omega arith
-number-below PlaceTaken = omega arith
-number-below TooLarge = omega arith
-number-below HistoryFull = omega arith
-number-below NoMessage = omega arith
-number-below NothingToUndo = omega arith
-number-below Held = omega arith
-number-below NoCheckpoint = omega arith
-number-below NotAState = omega arith
-number-below NoRoom = omega arith
-number-below BadLine = omega arith
 
 answer-length : (a : Answer) → length (answerLine (numberOf a)) ≤ 10
 unfolding answerLine line bytes

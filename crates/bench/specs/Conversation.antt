@@ -45,7 +45,7 @@ pub record Listed (store printed : List ℕ) : Type 0 where
   pub printed-is : printed ≡ take (valueOf answer) new
 
 -- a conversation, and then the listing
-pub record Session (entry : List ℕ) (lines : List (List ℕ)) (printed : List ℕ) : Type 0 where
+pub record Dialogue (entry : List ℕ) (lines : List (List ℕ)) (printed : List ℕ) : Type 0 where
   pub exit : List ℕ
   pub replies-said : List ℕ
   pub listing-said : List ℕ
@@ -55,13 +55,13 @@ pub record Session (entry : List ℕ) (lines : List (List ℕ)) (printed : List 
 
 pub record ProgramOfCalls : Type 0 where
   -- in a store that begins with the image of a sound state
-  pub on-state : (s : State) (rest : List ℕ) (lines : List (List ℕ)) (printed : List ℕ) → Sound s → Session (image s ++ rest) lines printed → printed ≡ replies s lines
+  pub on-state : (s : State) (rest : List ℕ) (lines : List (List ℕ)) (printed : List ℕ) → Sound s → Dialogue (image s ++ rest) lines printed → printed ≡ replies s lines
   -- in any other
-  pub elsewhere : (entry : List ℕ) (lines : List (List ℕ)) (printed : List ℕ) → ¬ IsImage entry → Session entry lines printed → printed ≡ withoutState lines
+  pub elsewhere : (entry : List ℕ) (lines : List (List ℕ)) (printed : List ℕ) → ¬ IsImage entry → Dialogue entry lines printed → printed ≡ withoutState lines
   -- after a load of a store that is long enough and held no state
   pub after-load : (module′ : List ℕ) (sizes : Sizes) (entry : List ℕ) (o : Outcome) (lines : List (List ℕ)) (printed : List ℕ)
-      → needed sizes ≤ length entry → ¬ IsImage entry → LoadCall module′ sizes entry o → Session (o .left) lines printed → printed ≡ afterLoad (load module′ sizes) lines
+      → needed sizes ≤ length entry → ¬ IsImage entry → LoadCall module′ sizes entry o → Dialogue (o .left) lines printed → printed ≡ afterLoad (load module′ sizes) lines
   -- with the lines of an input: 01's program
   pub program : (module′ : List ℕ) (sizes : Sizes) (entry input : List ℕ) (o : Outcome) (printed : List ℕ)
-      → needed sizes ≤ length entry → ¬ IsImage entry → LoadCall module′ sizes entry o → Session (o .left) (linesOf input) printed
+      → needed sizes ≤ length entry → ¬ IsImage entry → LoadCall module′ sizes entry o → Dialogue (o .left) (linesOf input) printed
       → printed ≡ bench module′ (sizes .places) (sizes .entries) (sizes .words) input
