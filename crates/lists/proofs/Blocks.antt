@@ -9,7 +9,7 @@ use lib.ListN.{length, take, drop, getD, set, replicate, replicate-append-replic
 use lib.Seq.{take-at, drop-at, take-append-add, drop-append-add, getD-at, getD-set-same, getD-set-other, ext-getD, length-take-le, take-nil, take-take, take-add, drop-drop}
 use borrow.Rule.Slice.PartMut.{midOf, putMid}
 use Rattle.lists.specs.Lists.{All, joined, upTo}
-pub use Rattle.lists.specs.Lists.{chop}
+unfoldable pub use Rattle.lists.specs.Lists.{chop}
 use Rattle.lists.proofs.All.{map-at}
 
 -- block p of n blocks ends within them
