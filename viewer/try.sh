@@ -11,11 +11,11 @@ trap 'rm -rf "$folder"' EXIT
 sed -n 's/^\(load: \)\{0,1\}\([0-9][0-9]*\) [a-z].*/\2/p' "$folder/tour" > "$folder/seen"
 sed -n 's/^answer=//p' crates/tour/stdout > "$folder/wanted"
 cmp "$folder/seen" "$folder/wanted"
-# A case of the corpus begins with a line load=PLACES ENTRIES WORDS MODULE.. in hex; `list`, `short=` and `clear` are lines of the corpus alone.
+# A case of the corpus begins with a line load=PLACES ENTRIES WORDS MODULE.. in hex; `list`, `short=`, `clear` and `alter=` are lines of the corpus alone.
 awk -v folder="$folder" -v most="$cases" '
     /^load=/ { count++; if (count > most) exit; split(substr($0, 6), w, " "); print w[1], w[2], w[3] > (folder "/" count ".sizes")
                line = ""; for (i = 4; i in w; i++) line = line " " w[i]; print line > (folder "/" count ".hex"); printf "" > (folder "/" count ".txt"); next }
-    count && !/^(list|short=|clear)/ { print > (folder "/" count ".txt") }
+    count && !/^(list|short=|clear|alter=)/ { print > (folder "/" count ".txt") }
 ' crates/bench_corpus/stdin
 ran=0
 for module in "$folder"/*.hex; do
