@@ -21,15 +21,15 @@ conversation-prints entry (line ∷ lines) exit printed text (answered {mid = mi
 pub listed-prints : (store text : List ℕ) → Listed store text → Prints store [] text
 listed-prints store text l = subst (Prints store []) (sym (l .printed-is)) (listing-prints store (l .old) (l .new) (l .answer) (l .call) (l .room))
 
-session-prints : (entry : List ℕ) (lines : List (List ℕ)) (printed : List ℕ) → Dialogue entry lines printed → Prints entry lines printed
-session-prints entry lines printed z =
+dialogue-prints : (entry : List ℕ) (lines : List (List ℕ)) (printed : List ℕ) → Dialogue entry lines printed → Prints entry lines printed
+dialogue-prints entry lines printed z =
     subst (Prints entry lines) (sym (z .printed-is)) (conversation-prints entry lines (z .exit) (z .replies-said) (z .listing-said) (z .conversation) (listed-prints (z .exit) (z .listing-said) (z .listed)))
 
 pub program-of-calls : ProgramOfCalls
 unfolding bench
 program-of-calls = record {
-  on-state = λ s rest lines printed sound z. session-prints _ lines printed z .on-image s rest sound refl;
-  elsewhere = λ entry lines printed empty z. session-prints entry lines printed z .elsewhere empty;
-  after-load = λ module′ sizes entry o lines printed room empty call z. load-prints module′ sizes entry o lines printed room empty call (session-prints (o .left) lines printed z);
-  program = λ module′ sizes entry input o printed room empty call z. load-prints module′ sizes entry o _ printed room empty call (session-prints (o .left) _ printed z);
+  on-state = λ s rest lines printed sound z. dialogue-prints _ lines printed z .on-image s rest sound refl;
+  elsewhere = λ entry lines printed empty z. dialogue-prints entry lines printed z .elsewhere empty;
+  after-load = λ module′ sizes entry o lines printed room empty call z. load-prints module′ sizes entry o lines printed room empty call (dialogue-prints (o .left) lines printed z);
+  program = λ module′ sizes entry input o printed room empty call z. load-prints module′ sizes entry o _ printed room empty call (dialogue-prints (o .left) _ printed z);
 }
