@@ -2,13 +2,13 @@
 use reading::entries::kind;
 use reading::entries::number;
 use reading::entries::queue_before;
-use reading::mail::NAME_BASE;
 use reading::mail::awaited;
 use reading::mail::has_come;
 use reading::mail::sends_before;
 use reading::mail::target;
 use reading::state::entry_count;
 use reading::state::queue;
+use store::layout::NAME_BASE;
 use store::layout::REC;
 use store::layout::SEND;
 use store::layout::SPAWN;

@@ -2,6 +2,7 @@
 use bench::input::last_line;
 use scripts::input::Lines;
 use scripts::input::read_all;
+use scripts::printing::REPLY;
 use scripts::printing::list;
 use scripts::printing::print;
 use store::load::load;
@@ -15,17 +16,20 @@ const ENTRIES: u32 = 16;
 
 const WORDS: u32 = 64;
 
+// How many words its store has.
+const STORE: usize = 10816;
+
 // Prints the reply to a last line that has no LF.
 fn answer_last(store: &mut [u32], line: &[u8]) {
-    let mut out = [0u8; 32];
+    let mut out = [0u8; REPLY];
     let end = last_line(store, line, &mut out);
     print(&out, end);
 }
 
 fn main() {
-    let mut store = [0u32; 10816];
+    let mut store = [0u32; STORE];
     load(&MODULE, PLACES, ENTRIES, WORDS, &mut store);
-    let mut line = [0u8; 32];
+    let mut line = [0u8; REPLY];
     let count = read_all(Lines::Commands, &mut store, &mut line);
     answer_last(&mut store, &line[..count]);
     list(&store);

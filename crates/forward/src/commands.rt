@@ -3,22 +3,20 @@ use crate::stepping::spawn_live;
 use crate::stepping::step_live;
 use calls::answers::Answer;
 use reading::found::Found;
-use reading::mail::NAME_BASE;
 use reading::mail::find_send;
 use reading::mail::has_come;
 use reading::mail::target;
 use reading::state::in_pool;
 use reading::state::most_words;
 use soundness::sound::sound;
+use store::layout::CONTROL_ROOM;
+use store::layout::NAME_BASE;
 use writing::posting::post;
 ghost use Rattle.rules.specs.Commands.{step as stepOf, spawnInto, deliver as deliverOf};
 ghost use Rattle.store.specs.Image.{IsImage};
 ghost use Rattle.calls.specs.Numbers.{CommandCall};
 ghost use Rattle.reading.specs.Reads.{OfState, SendAt};
 ghost use Rattle.calls.specs.Answering.{Does};
-
-// The most words that a control may have.
-const WIDEST: usize = 255;
 
 fn step_sound(store: &mut [u32], p: u32) -> Answer
     requires { ⌜ IsImage (now store) ⌝ }
@@ -27,7 +25,7 @@ fn step_sound(store: &mut [u32], p: u32) -> Answer
     if !in_pool(store, p) {
         return Answer::NoProcess;
     }
-    let mut row = [0; WIDEST];
+    let mut row = [0; CONTROL_ROOM];
     let words = most_words(store);
     step_live(store, p, &mut row[..words])
 }
@@ -49,8 +47,8 @@ fn spawn_sound(store: &mut [u32], p: u32, f: u32) -> Answer
     if !in_pool(store, p) {
         return Answer::NoProcess;
     }
-    let mut row = [0; WIDEST];
-    let mut first = [0; WIDEST];
+    let mut row = [0; CONTROL_ROOM];
+    let mut first = [0; CONTROL_ROOM];
     let words = most_words(store);
     spawn_live(store, p, f, &mut row[..words], &mut first[..words])
 }

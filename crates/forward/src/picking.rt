@@ -1,12 +1,12 @@
 // The message that a receive takes: the oldest that one of its clauses takes.
 use reading::found::Found;
-use reading::mail::NAME_BASE;
 use reading::mail::find_send;
 use reading::mail::value;
 use reading::state::control;
 use reading::state::queue;
 use step::control::taken;
 use step::step::Next;
+use store::layout::NAME_BASE;
 ghost use Rattle.store.specs.Image.{IsImage};
 ghost use Rattle.reading.specs.Reads.{OfState, Lives};
 ghost use Rattle.forward.specs.Forward.{IsSent, ValueSent, TakenRow, PickedRow};

@@ -1,12 +1,12 @@
 // The messages in flight of a listing, by sender, then count.
 use reading::found::Found;
-use reading::mail::NAME_BASE;
 use reading::mail::find_send;
 use reading::mail::has_come;
 use reading::mail::sends_before;
 use reading::mail::target;
 use reading::state::entry_count;
 use reading::state::places;
+use store::layout::NAME_BASE;
 use text::keys::FLIGHT;
 use text::writing::past;
 use text::writing::write_bytes;

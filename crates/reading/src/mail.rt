@@ -10,6 +10,7 @@ use crate::state::queue;
 use step::control::sent;
 use step::work::Doing;
 use step::work::about_to;
+use store::layout::NAME_BASE;
 use store::layout::REC;
 use store::layout::SEND;
 ghost use mathlib.Core.Path.{_≡_};
@@ -23,9 +24,6 @@ ghost use Rattle.store.specs.Image.{IsImage};
 ghost use Rattle.store.specs.Layout.{nameBase};
 ghost use Rattle.reading.specs.Mail.{fliesBy};
 ghost use Rattle.reading.specs.Reads.{OfState, IsPlace, IsEntry, OfEntry, IsSend, OfSend, oldest, SendFound};
-
-// A message's name as a word is its sender times this, and its count.
-pub const NAME_BASE: u32 = 65536;
 
 // The place that entry i of p, a send, sent to.
 pub fn target(store: &[u32], p: usize, i: usize) -> u32

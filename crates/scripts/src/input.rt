@@ -8,6 +8,13 @@ use text::keys::LINE_FEED;
 ghost use Prim.Native.Nat.{_≤_, _<_};
 ghost use lib.ListN.{length};
 
+// A script's store and the longest of its lines; what can be said for a block of commands, 32 bytes for each of its bytes.
+const STORE: usize = 131072;
+
+const LONGEST_LINE: usize = 8192;
+
+const SAID: usize = 131072;
+
 // What the lines of the input are.
 pub enum Lines {
     Commands,
@@ -27,7 +34,7 @@ fn answer_block(store: &mut [u32], line: &mut [u8], count: usize, block: &[u8]) 
     requires { ⌜ length (now block) ≤ 4096 ⌝ }
     ensures { λ r. ⌜ r ≤ length (now (line .entry)) ⌝ }
 {
-    let mut out = [0u8; 131072];
+    let mut out = [0u8; SAID];
     let heard = take_block(store, line, count, block, &mut out);
     print(&out, heard.end);
     heard.count
@@ -114,7 +121,7 @@ pub fn read_all(lines: Lines, store: &mut [u32], line: &mut [u8]) -> usize
 
 // Runs a whole script.
 pub fn run() {
-    let mut store = [0u32; 131072];
-    let mut line = [0u8; 8192];
+    let mut store = [0u32; STORE];
+    let mut line = [0u8; LONGEST_LINE];
     read_all(Lines::Script, &mut store, &mut line);
 }

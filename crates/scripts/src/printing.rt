@@ -7,6 +7,9 @@ use text::replies::write_number_line;
 ghost use Prim.Native.Nat.{_≤_};
 ghost use lib.ListN.{length};
 
+// Room for a reply, or for a key and a number.
+pub const REPLY: usize = 32;
+
 // Prints the first bytes of an output.
 pub fn print(out: &[u8], end: usize)
     requires { ⌜ end ≤ length (now out) ⌝ }
@@ -16,16 +19,16 @@ pub fn print(out: &[u8], end: usize)
 
 // Prints a key and a number.
 pub fn print_number(key: &[u8], n: u32) {
-    let mut out = [0u8; 32];
+    let mut out = [0u8; REPLY];
     let end = write_number_line(&mut out, 0, key, n);
-    if end <= 32 {
+    if end <= REPLY {
         print(&out, end);
     }
 }
 
 // Prints the reply to a command line.
 pub fn print_reply(store: &mut [u32], text: &[u8]) {
-    let mut out = [0u8; 32];
+    let mut out = [0u8; REPLY];
     let end = reply(store, text, &mut out, 0);
     print(&out, end);
 }

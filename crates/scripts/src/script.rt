@@ -7,6 +7,7 @@ use calls::answers::Answer;
 use calls::answers::number;
 use store::load::Loaded;
 use store::load::load;
+use term::module::LONGEST;
 use text::keys::ANSWER;
 use text::parsing::Number;
 use text::parsing::begins;
@@ -28,6 +29,11 @@ const POSITION: [u8; 9] = *b"position=";
 
 // How many bytes a word takes, with the space that follows it.
 const WORD_BYTES: usize = 9;
+
+// The most words of a line that loads, and the longest output that a line can ask for.
+const LOADED: usize = 600;
+
+const SHORTENED: usize = 256;
 
 // The value of a hexadecimal digit in upper case.
 fn digit(b: u8) -> u32 {
@@ -85,15 +91,15 @@ fn load_words(store: &mut [u32], words: &[u32]) {
     let Loaded::BadModule(at) = loaded else {
         return;
     };
-    if at <= 512 {
+    if at <= LONGEST {
         print_number(&POSITION, at as u32);
     }
 }
 
 fn load_line(store: &mut [u32], text: &[u8]) {
-    let mut words = [0u32; 600];
+    let mut words = [0u32; LOADED];
     let n = read_words(text, &mut words);
-    if n <= 600 {
+    if n <= LOADED {
         load_words(store, &words[..n]);
     }
 }
@@ -106,12 +112,12 @@ fn refused(a: Answer) {
 }
 
 fn short_line(store: &[u32], text: &[u8]) {
-    let mut out = [0u8; 256];
+    let mut out = [0u8; SHORTENED];
     let Number::Value(n) = read_number(text) else {
         return;
     };
     let end = n as usize;
-    if end <= 256 {
+    if end <= SHORTENED {
         refused(print_listing(store, &mut out[..end]));
     }
 }

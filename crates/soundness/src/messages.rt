@@ -1,4 +1,5 @@
 // Messages: each message that came was sent to its place and came once.
+use store::layout::NAME_BASE;
 use store::layout::REC;
 use store::layout::SLOT_HEAD;
 ghost use mathlib.Core.Path.{_≡_};
@@ -7,9 +8,6 @@ ghost use lib.ListN.{length, drop};
 ghost use Rattle.lists.specs.Lists.{All, chop};
 ghost use Rattle.store.specs.Layout.{mostPlaces, mostEntries};
 ghost use Rattle.soundness.specs.SoundTests.{Slots, answered, TakenFits, arriveOne, arriveAll, arriveSlot, arriveTaken, TakenBlock, arrivePlace, arriveFrom};
-
-// A name's word is its sender and its count to this base.
-const NAME_BASE: u32 = 65536;
 
 // A message that came to a place: it was sent there, and did not come before. `targets` holds one more than each send's target.
 fn arrive(name: u32, place: u32, places: usize, entries: usize, targets: &mut [u32]) -> bool

@@ -7,12 +7,14 @@ use crate::sound_sends::note_places;
 use crate::sound_shape::places_pass;
 use store::layout::BLOCKS;
 use store::layout::HEAD;
+use store::layout::NAMES_ROOM;
 use store::layout::block_size;
 use store::layout::needed;
 use store::layout::slot_size;
 use store::well_formed::well_formed;
 use term::module::Checked;
 use term::module::Functions;
+use term::module::LONGEST;
 use term::module::check_module;
 use term::module::read_functions;
 ghost use mathlib.Core.Path.{_≡_};
@@ -39,7 +41,7 @@ fn sound_messages(
     requires { ⌜ (length (now blocks) ≡ places * len) × All (ControlBlock size entries) (chop places len (now blocks)) × All (TakenBlock words size entries) (chop places len (now blocks)) × (places ≤ mostPlaces) × (entries ≤ mostEntries) × (size ≤ longestSlot) × (length (now live) ≡ mostPlaces) ⌝ }
     ensures { λ r. ⌜ MessagesTested (now (live .entry)) places entries words size (chop places len (now (blocks .entry))) r ⌝ }
 {
-    let mut targets = [0u32; 1024];
+    let mut targets = [0u32; NAMES_ROOM];
     if note_places(blocks, places, len, entries, size, live, &mut targets) {
         if messages(
             blocks,
@@ -116,7 +118,7 @@ fn sound_formed(store: &[u32]) -> bool
     let Checked::Good = checked else {
         return false;
     };
-    let mut counts = [0u32; 512];
+    let mut counts = [0u32; LONGEST];
     let shape = read_functions(&store[HEAD..end], &mut counts);
     let Functions::Count(m) = shape else {
         return false;

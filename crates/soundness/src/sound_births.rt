@@ -1,5 +1,6 @@
 // Births: each live place but 0 is the child of exactly one spawn entry, place 0 of none, children are live.
 use store::layout::FREE;
+use store::layout::PLACES_ROOM;
 use store::layout::SPAWN;
 ghost use mathlib.Core.Path.{_≡_};
 ghost use Prim.Native.Nat.{_≤_, _*_};
@@ -113,7 +114,7 @@ pub fn births(
     requires { ⌜ (length (now blocks) ≡ places * len) × All (Block 0 size count) (chop places len (now blocks)) × (length (now live) ≡ mostPlaces) ⌝ }
     ensures { λ r. ⌜ Decides (Births size count (now (live .entry)) (chop places len (now (blocks .entry)))) r ⌝ }
 {
-    let mut born = [false; 16];
+    let mut born = [false; PLACES_ROOM];
     if bear_places(blocks, places, len, count, size, live, &mut born) {
         all_born(live, &born)
     } else {
@@ -122,11 +123,11 @@ pub fn births(
 }
 
 // Which places have a process: those whose first slot is not free.
-pub fn live_places(blocks: &[u32], places: usize, len: usize) -> [bool; 16]
+pub fn live_places(blocks: &[u32], places: usize, len: usize) -> [bool; PLACES_ROOM]
     requires { ⌜ (length (now blocks) ≡ places * len) × (1 ≤ len) × (places ≤ mostPlaces) ⌝ }
     ensures { λ r. ⌜ r ≡ liveFrom 0 (chop places len (now (blocks .entry))) (replicate mostPlaces false) ⌝ }
 {
-    let mut live = [false; 16];
+    let mut live = [false; PLACES_ROOM];
     let mut t = blocks;
     let mut left = places;
     let mut p = 0;

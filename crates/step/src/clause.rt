@@ -2,6 +2,7 @@
 use crate::guard::holds;
 use crate::matching::matches;
 use term::terms::skip;
+use term::words::VARIABLES;
 ghost use Prim.Native.Nat.{_<_};
 ghost use lib.ListN.{length};
 ghost use Rattle.step.specs.Clausal.{TakesAt, ChoosesAt};
@@ -19,7 +20,7 @@ pub fn takes(c: &[u32], at: usize, v: &[u32], va: usize) -> bool
     if c.len() <= at {
         return false;
     }
-    let mut env = [0; 64];
+    let mut env = [0; VARIABLES];
     let fits = matches(c, at + 1, v, va, 1, &mut env);
     if !fits {
         return false;

@@ -16,6 +16,7 @@ use term::words::APPLY;
 use term::words::CALL;
 use term::words::CASE;
 use term::words::LET;
+use term::words::VARIABLES;
 use term::words::k;
 use term::words::n;
 use term::words::tag;
@@ -103,7 +104,7 @@ pub fn send_next(c: &[u32], out: &mut [u32]) -> Next
         return Next::Nothing;
     }
     let value = skip(c, at + 1, 1);
-    let env = [0; 64];
+    let env = [0; VARIABLES];
     let room = out.len();
     fitted(with_copy(c, at, c, value, c, &env, out), room)
 }

@@ -11,6 +11,7 @@ use crate::operand::here;
 use crate::operand::operate;
 use term::functions::function_start;
 use term::terms::skip;
+use term::words::VARIABLES;
 use term::words::k;
 use term::words::n;
 ghost use mathlib.Core.Path.{_≡_};
@@ -89,7 +90,7 @@ fn clause_next(c: &[u32], at: usize, clause: usize, v: &[u32], va: usize, out: &
     if c.len() <= clause {
         return 0;
     }
-    let mut env = [0; 64];
+    let mut env = [0; VARIABLES];
     let fits = matches(c, clause + 1, v, va, 1, &mut env);
     let body = skip(c, clause + 1, 2);
     with_copy(c, at, c, body, v, &env, out)
@@ -114,9 +115,9 @@ pub fn let_next(c: &[u32], at: usize, out: &mut [u32]) -> Next
     if c.len() <= at {
         return Next::Nothing;
     }
-    let mut env = [0; 64];
+    let mut env = [0; VARIABLES];
     let x = k(c[at]) as usize;
-    if 64 <= x {
+    if VARIABLES <= x {
         return Next::Nothing;
     }
     env[x] = at as u32 + 2;
@@ -169,7 +170,7 @@ pub fn apply_next(program: &[u32], c: &[u32], at: usize, out: &mut [u32]) -> Nex
         return Next::Nothing;
     }
     let w = c[at];
-    let mut env = [0; 64];
+    let mut env = [0; VARIABLES];
     parameters(c, at + 1, n(w) as usize, 0, &mut env);
     let start = function_start(program, k(w) as usize);
     if program.len() <= start {

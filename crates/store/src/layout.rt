@@ -13,6 +13,25 @@ pub const BLOCKS: usize = 516;
 // The words of a slot before its control.
 pub const SLOT_HEAD: usize = 8;
 
+// The most that sizes allow, and the least words of an expression.
+const MOST_PLACES: u32 = 16;
+
+const MOST_ENTRIES: u32 = 64;
+
+const LEAST_WORDS: u32 = 16;
+
+const MOST_WORDS: u32 = 255;
+
+// Room for a mark for each place, for a control, and for all the names that there can be.
+pub const PLACES_ROOM: usize = MOST_PLACES as usize;
+
+pub const CONTROL_ROOM: usize = MOST_WORDS as usize;
+
+pub const NAMES_ROOM: usize = PLACES_ROOM * MOST_ENTRIES as usize;
+
+// A message's name in one word: its sender times this, plus its count.
+pub const NAME_BASE: u32 = 65536;
+
 // The kinds of slots: free, an entry of each kind, the present of a process.
 pub const FREE: u32 = 0;
 
@@ -37,19 +56,19 @@ pub fn sizes_good(places: u32, entries: u32, words: u32) -> bool
     if places < 1 {
         return false;
     }
-    if 16 < places {
+    if MOST_PLACES < places {
         return false;
     }
     if entries < 1 {
         return false;
     }
-    if 64 < entries {
+    if MOST_ENTRIES < entries {
         return false;
     }
-    if words < 16 {
+    if words < LEAST_WORDS {
         return false;
     }
-    words <= 255
+    words <= MOST_WORDS
 }
 
 // How many words a slot has.

@@ -10,6 +10,7 @@ use crate::words::INTEGER;
 use crate::words::LET;
 use crate::words::SPAWN;
 use crate::words::VARIABLE;
+use crate::words::VARIABLES;
 use crate::words::k;
 use crate::words::n;
 use crate::words::tag;
@@ -21,10 +22,8 @@ ghost use Rattle.term.specs.Words.{tagOf, kOf};
 ghost use Rattle.term.specs.Binding.{names, checksAfter};
 ghost use Rattle.term.specs.Walking.{Marks, Binds, Rules, Keeps, KeepsPlain, KeepsBoth, variables, checkNumbers};
 
-// How many variables and how many check numbers there are.
-pub const VARIABLES: usize = 64;
-
-const NUMBERS: usize = 256;
+// How many check numbers there are.
+pub const NUMBERS: usize = 256;
 
 // Where the words that were gone through end, or the word that breaks a rule.
 pub enum Gone {
@@ -33,7 +32,7 @@ pub enum Gone {
 }
 
 // The scope with one more variable.
-pub fn with(scope: &[bool; 64], v: usize) -> [bool; 64]
+pub fn with(scope: &[bool; VARIABLES], v: usize) -> [bool; VARIABLES]
     ensures { λ r. ⌜ ((s : List ℕ) → Marks variables (now (scope .entry)) s → Marks variables r (v ∷ s)) ⌝ }
 {
     let mut inner = *scope;
@@ -44,7 +43,7 @@ pub fn with(scope: &[bool; 64], v: usize) -> [bool; 64]
 }
 
 // The variables of so many patterns come into scope, each of them new.
-pub fn bind(row: &[u32], at: usize, owed: usize, scope: &mut [bool; 64]) -> Gone
+pub fn bind(row: &[u32], at: usize, owed: usize, scope: &mut [bool; VARIABLES]) -> Gone
     ensures { λ r. ⌜ Binds (now (row .entry)) at owed (now (scope .entry)) (now (scope .exit)) r ⌝ }
 {
     if owed == 0 {
@@ -88,10 +87,10 @@ pub fn named(arities: &[u32], function: usize, count: u32) -> bool
 // Whether a word keeps its rule.
 pub fn keeps_rule(
     w: u32,
-    scope: &[bool; 64],
+    scope: &[bool; VARIABLES],
     arities: &[u32],
     unique: bool,
-    checks: &[bool; 256],
+    checks: &[bool; NUMBERS],
 ) -> bool
     ensures { λ r. ⌜ Rules w (now (scope .entry)) (now (arities .entry)) unique (now (checks .entry)) r ⌝ }
 {
@@ -128,7 +127,7 @@ pub fn keeps_rule(
 }
 
 // A check's number is met.
-pub fn meet(w: u32, checks: &mut [bool; 256])
+pub fn meet(w: u32, checks: &mut [bool; NUMBERS])
     ensures { λ _. ⌜ ((s : List ℕ) → Marks checkNumbers (now (checks .entry)) s → Marks checkNumbers (now (checks .exit)) (checksAfter (tagOf w) (kOf w) s)) ⌝ }
 {
     if tag(w) == CHECK {
@@ -151,10 +150,10 @@ pub fn keep_plain(
     row: &[u32],
     at: usize,
     owed: usize,
-    scope: &[bool; 64],
+    scope: &[bool; VARIABLES],
     arities: &[u32],
     unique: bool,
-    checks: &mut [bool; 256],
+    checks: &mut [bool; NUMBERS],
 ) -> Plain
     ensures { λ r. ⌜ KeepsPlain (now (row .entry)) at owed (now (scope .entry)) (now (arities .entry)) unique (now (checks .entry)) (now (checks .exit)) r ⌝ }
 {
@@ -200,10 +199,10 @@ pub fn keep(
     row: &[u32],
     at: usize,
     owed: usize,
-    scope: &[bool; 64],
+    scope: &[bool; VARIABLES],
     arities: &[u32],
     unique: bool,
-    checks: &mut [bool; 256],
+    checks: &mut [bool; NUMBERS],
 ) -> Gone
     ensures { λ r. ⌜ Keeps (now (row .entry)) at owed (now (scope .entry)) (now (arities .entry)) unique (now (checks .entry)) (now (checks .exit)) r ⌝ }
 {
@@ -237,11 +236,11 @@ pub fn keep_both(
     at: usize,
     first: usize,
     second: usize,
-    inner: &[bool; 64],
-    outer: &[bool; 64],
+    inner: &[bool; VARIABLES],
+    outer: &[bool; VARIABLES],
     arities: &[u32],
     unique: bool,
-    checks: &mut [bool; 256],
+    checks: &mut [bool; NUMBERS],
 ) -> Gone
     ensures { λ r. ⌜ KeepsBoth (now (row .entry)) at first second (now (inner .entry)) (now (outer .entry)) (now (arities .entry)) unique (now (checks .entry)) (now (checks .exit)) r ⌝ }
 {

@@ -1,9 +1,11 @@
 // Controls: closed, well shaped, keeping the rules.
 use crate::binding::Gone;
+use crate::binding::NUMBERS;
 use crate::binding::keep;
 use crate::shape::EXPRESSION;
 use crate::shape::Reading;
 use crate::shape::read;
+use crate::words::VARIABLES;
 ghost use mathlib.Core.Path.{_≡_};
 ghost use Rattle.term.specs.Control.{goodControl};
 
@@ -18,8 +20,8 @@ pub fn check_control(row: &[u32], places: u32, arities: &[u32]) -> bool
     if a < row.len() {
         return false;
     }
-    let mut checks = [false; 256];
-    let scope = [false; 64];
+    let mut checks = [false; NUMBERS];
+    let scope = [false; VARIABLES];
     let walk = keep(row, 0, 1, &scope, arities, false, &mut checks);
     let Gone::Past(_) = walk else {
         return false;

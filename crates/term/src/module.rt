@@ -1,10 +1,11 @@
 // Modules: the check that load makes.
 use crate::binding::Gone;
-use crate::binding::VARIABLES;
+use crate::binding::NUMBERS;
 use crate::binding::keep;
 use crate::shape::FUNCTION_SPOT;
 use crate::shape::Reading;
 use crate::shape::read;
+use crate::words::VARIABLES;
 use crate::words::n;
 ghost use mathlib.Core.Path.{_≡_};
 ghost use Prim.Native.Nat.{_≤_};
@@ -30,10 +31,10 @@ pub enum Functions {
 }
 
 // The scope of a function's parameters: variables 0, 1, .. below their count.
-fn parameters(count: usize) -> [bool; 64]
+fn parameters(count: usize) -> [bool; VARIABLES]
     ensures { λ r. ⌜ Marks variables r (upTo count) ⌝ }
 {
-    let mut scope = [false; 64];
+    let mut scope = [false; VARIABLES];
     let mut i = 0;
     while i < count {
         if VARIABLES <= i {
@@ -73,7 +74,7 @@ pub fn read_functions(row: &[u32], counts: &mut [u32]) -> Functions
 fn keep_functions(row: &[u32], arities: &[u32]) -> Checked
     ensures { λ r. ⌜ KeepsFunctions (now (row .entry)) (now (arities .entry)) r ⌝ }
 {
-    let mut checks = [false; 256];
+    let mut checks = [false; NUMBERS];
     let mut at = 0;
     while at < row.len() {
         let scope = parameters(n(row[at]) as usize);
@@ -95,7 +96,7 @@ pub fn check_module(row: &[u32]) -> Checked
     if LONGEST < row.len() {
         return Checked::Bad(LONGEST);
     }
-    let mut counts = [0u32; 512];
+    let mut counts = [0u32; LONGEST];
     let shape = read_functions(row, &mut counts);
     match shape {
         Functions::Fails(p) => Checked::Bad(p),

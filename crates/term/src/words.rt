@@ -39,6 +39,9 @@ pub const CLAUSE: u32 = 17;
 
 pub const FUNCTION: u32 = 18;
 
+// How many variables there are.
+pub const VARIABLES: usize = 64;
+
 pub fn tag(w: u32) -> u32
     ensures { λ r. ⌜ r ≡ tagOf w ⌝ }
 {

@@ -1,6 +1,7 @@
 // Writing into one slot, lent as its words.
 use store::fill::fill;
 use store::layout::LIVE;
+use store::layout::NAMES_ROOM;
 use store::layout::SLOT_HEAD;
 ghost use mathlib.Core.Path.{_≡_};
 ghost use Prim.Native.Nat.{_+_, _<_};
@@ -49,7 +50,7 @@ pub fn drop_name(slot: &mut [u32], words: usize, place: usize)
     let from = SLOT_HEAD + words + place;
     let behind = from + 1;
     let end = SLOT_HEAD + words + count;
-    let mut held = [0u32; 1024];
+    let mut held = [0u32; NAMES_ROOM];
     fill(&mut held, &slot[behind..end]);
     let all = slot.len();
     fill(&mut slot[from..all], &held);
