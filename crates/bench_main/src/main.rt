@@ -16,8 +16,10 @@ const ENTRIES: u32 = 16;
 
 const WORDS: u32 = 64;
 
-// How many words its store has.
+// How many words its store has, and how many bytes of a line are kept: more than any good line has.
 const STORE: usize = 10816;
+
+const LINE: usize = 32;
 
 // Prints the reply to a last line that has no LF.
 fn answer_last(store: &mut [u32], line: &[u8]) {
@@ -29,7 +31,7 @@ fn answer_last(store: &mut [u32], line: &[u8]) {
 fn main() {
     let mut store = [0u32; STORE];
     load(&MODULE, PLACES, ENTRIES, WORDS, &mut store);
-    let mut line = [0u8; REPLY];
+    let mut line = [0u8; LINE];
     let count = read_all(Lines::Commands, &mut store, &mut line);
     answer_last(&mut store, &line[..count]);
     list(&store);
