@@ -17,7 +17,7 @@ use Rattle.text.proofs.LongLines.{parse-long}
 use Rattle.text.proofs.WritingLaws.{wrote-then, wrote-none}
 use Rattle.bench.specs.Replied.{replyText, Replied}
 use Rattle.bench.specs.Prints.{Prints}
-use Rattle.bench.specs.Input.{ontoPieces, linesFrom, Kept, Took, Ended}
+use Rattle.bench.specs.Input.{ontoPieces, linesFrom, Kept, Took, longestGood, HasRoom, Hears, Ended}
 use Rattle.bench.proofs.PrintsLaws.{reply-prints}
 
 -- ---- the lines of an input
@@ -116,15 +116,11 @@ cut-prints store text begun more n h p = elim (decLe (length begun) n) [
 
 -- ---- one byte of a line is kept
 
-pub kept-full : (line : List ℕ) (count b : ℕ) → count ≤ length line → length line ≤ count → Kept line line count b count
-kept-full line count b h g = record {
-  within = h;
+pub kept-full : (line : List ℕ) (count b : ℕ) → length line ≤ count → Kept line line count b (length line)
+kept-full line count b g = record {
+  within = omega arith;
   same = refl;
-  kept =
-      let all : take (length line) (take count line ++ (b ∷ [])) ≡ take (length line) line =
-      ap (λ (l : List ℕ). take (length line) (l ++ (b ∷ []))) (take-all count line g) ∙ take-append-le (length line) line (b ∷ []) (omega arith) in
-      let same : count ≡ length line = omega arith in
-      ap (λ (n : ℕ). take n line) same ∙ sym all;
+  kept = sym (ap (λ (l : List ℕ). take (length line) (l ++ (b ∷ []))) (take-all count line g) ∙ take-append-le (length line) line (b ∷ []) (omega arith));
 }
 
 pub kept-more : (line : List ℕ) (count b : ℕ) → count < length line → Kept line (set line count b) count b (count + 1)
@@ -195,6 +191,21 @@ took-more l i h t u = rw (add-one i, take-suc l i 0 h) (took-then t u)
 
 pub took-all : (l : List ℕ) (i : ℕ) {entry begun exit since old new : List ℕ} {at end : ℕ} → length l ≤ i → Took entry begun (take i l) exit since at old new end → Took entry begun l exit since at old new end
 took-all l i h t = rw (take-all i l h) at t
+
+-- ---- a block is taken, or nothing
+
+pub hears-not : (store line out input : List ℕ) (count kept end : ℕ) → ¬ HasRoom line count → (kept ≡ 0) × (end ≡ 0) → Hears store store line line count input out out kept end
+hears-not store line out input count kept end none-there e = record { within = omega (arith, e .0); taken = λ room. absurd (none-there room); refused = λ _. (refl, refl, refl, e .0, e .1) }
+
+pub hears-short : (store line out input : List ℕ) (count kept end : ℕ) → length line ≤ longestGood → (kept ≡ 0) × (end ≡ 0) → Hears store store line line count input out out kept end
+hears-short store line out input count kept end h e = hears-not store line out input count kept end (λ room. absurd (omega (arith, room .0))) e
+
+pub hears-over : (store line out input : List ℕ) (count kept end : ℕ) → length line < count → (kept ≡ 0) × (end ≡ 0) → Hears store store line line count input out out kept end
+hears-over store line out input count kept end h e = hears-not store line out input count kept end (λ room. absurd (omega (arith, room .1))) e
+
+pub hears-all : (entry exit line after : List ℕ) (count : ℕ) (input old new : List ℕ) (kept end : ℕ) → longestGood < length line → count ≤ length line
+    → (kept ≤ length line) × Took entry (take count line) input exit (take kept after) 0 old new end → Hears entry exit line after count input old new kept end
+hears-all entry exit line after count input old new kept end a b t = record { within = t .0; taken = λ room. t .1; refused = λ none-there. absurd (none-there (a, b)) }
 
 -- ---- the input ends
 

@@ -1,6 +1,6 @@
 -- What the input's bytes do, block by block, and what the program bench prints for all of them. Assumes nothing: these are definitions;
 -- `program-of-blocks` of proofs/ shows what is claimed.
-use Prim.Native.Nat.{ℕ, _*_, _≤_}
+use Prim.Native.Nat.{ℕ, _*_, _≤_, _<_}
 use mathlib.Core.Path.{_≡_}
 use mathlib.Core.List.{List, [], _∷_, _++_}
 use lib.ListN.{length, take, replicate}
@@ -40,6 +40,20 @@ pub record Took (entry begun input exit since : List ℕ) (at : ℕ) (old new : 
   pub told : (more text : List ℕ) → Prints exit (linesFrom since more) text → Prints entry (linesFrom begun (input ++ more)) (said ++ text)
   pub wrote : Wrote said at old new end
   pub fits : length said ≤ replyRoom * length input
+
+-- the longest good line, a rollback with two numbers of three digits
+abbrev pub longestGood : ℕ
+longestGood = 16
+
+-- a line with room for every good one, and no more kept of it than it has
+abbrev pub HasRoom : (line : List ℕ) (count : ℕ) → Type 0
+HasRoom line count = (longestGood < length line) × (count ≤ length line)
+
+-- a block of the input, for all lines that are lent: it is taken, or nothing is taken and nothing changes
+pub record Hears (entry exit line after : List ℕ) (count : ℕ) (input old new : List ℕ) (kept end : ℕ) : Type 0 where
+  pub within : kept ≤ length line
+  pub taken : HasRoom line count → Took entry (take count line) input exit (take kept after) 0 old new end
+  pub refused : ¬ HasRoom line count → (exit ≡ entry) × (after ≡ line) × (new ≡ old) × (kept ≡ 0) × (end ≡ 0)
 
 -- the end of the input, where a line has begun
 pub record Ended (entry begun exit old new : List ℕ) (end : ℕ) : Type 0 where

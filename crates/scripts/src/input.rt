@@ -7,6 +7,7 @@ use libc::STDIN_FILENO;
 use text::keys::LINE_FEED;
 ghost use Prim.Native.Nat.{_≤_, _<_};
 ghost use lib.ListN.{length};
+ghost use Rattle.bench.specs.Input.{longestGood};
 
 // A script's store and the longest of its lines; what can be said for a block of commands, 32 bytes for each of its bytes.
 const STORE: usize = 131072;
@@ -30,7 +31,7 @@ pub struct Turn {
 // A block of commands: what is said for the lines that end in it is printed.
 fn answer_block(store: &mut [u32], line: &mut [u8], count: usize, block: &[u8]) -> usize
     requires { ⌜ count ≤ length (now line) ⌝ }
-    requires { ⌜ 16 < length (now line) ⌝ }
+    requires { ⌜ longestGood < length (now line) ⌝ }
     requires { ⌜ length (now block) ≤ 4096 ⌝ }
     ensures { λ r. ⌜ r ≤ length (now (line .entry)) ⌝ }
 {
@@ -69,7 +70,7 @@ fn perform_block(store: &mut [u32], line: &mut [u8], count: usize, block: &[u8])
 // A block of the input.
 fn hear(lines: Lines, store: &mut [u32], line: &mut [u8], count: usize, block: &[u8]) -> usize
     requires { ⌜ count ≤ length (now line) ⌝ }
-    requires { ⌜ 16 < length (now line) ⌝ }
+    requires { ⌜ longestGood < length (now line) ⌝ }
     requires { ⌜ length (now block) ≤ 4096 ⌝ }
     ensures { λ r. ⌜ r ≤ length (now (line .entry)) ⌝ }
 {
@@ -82,7 +83,7 @@ fn hear(lines: Lines, store: &mut [u32], line: &mut [u8], count: usize, block: &
 // Reads once, and performs the lines that end in what came.
 fn read_some(lines: Lines, store: &mut [u32], line: &mut [u8], count: usize) -> Turn
     requires { ⌜ count ≤ length (now line) ⌝ }
-    requires { ⌜ 16 < length (now line) ⌝ }
+    requires { ⌜ longestGood < length (now line) ⌝ }
     ensures { λ r. ⌜ r .count ≤ length (now (line .entry)) ⌝ }
 {
     let mut block = io::buffer();
@@ -103,7 +104,7 @@ fn read_some(lines: Lines, store: &mut [u32], line: &mut [u8], count: usize) -> 
 // Reads to the end of the input; nothing says that it ends, so turns are counted down from a number that no run uses up. The answer is how
 // many bytes stand in a last line with no LF.
 pub fn read_all(lines: Lines, store: &mut [u32], line: &mut [u8]) -> usize
-    requires { ⌜ 16 < length (now line) ⌝ }
+    requires { ⌜ longestGood < length (now line) ⌝ }
     ensures { λ r. ⌜ r ≤ length (now (line .entry)) ⌝ }
 {
     let mut turn = Turn {

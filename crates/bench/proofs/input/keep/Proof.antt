@@ -5,7 +5,7 @@ use Rattle.bench.proofs.input.keep.Statement.{statement}
 use Rattle.bench.proofs.input.keep.Tie as tie
 
 returns : tie.Need-returns
-returns c = kept-full _ _ _ (search needs) (search needs)
+returns c = kept-full _ _ _ (search needs)
 
 slice-write-line : tie.Need-slice-write-line
 slice-write-line c = search needs

@@ -15,7 +15,7 @@ slice-aggregate-print : tie.Need-slice-aggregate-print
 slice-aggregate-print c = search needs
 
 print-requires : tie.Need-print-requires
-print-requires c κs = block-ends (c .before .before .before .before .before .before .take-block .ensures .1) (omega (arith, c .before .before .before .before .before .before .before .before .before .before .before .before .before .pre .1 .1))
+print-requires c κs = block-ends (c .before .before .before .before .before .before .take-block .ensures .taken (search needs, search needs)) (omega (arith, c .before .before .before .before .before .before .before .before .before .before .before .before .before .pre .1 .1))
 
 same-length : tie.Need-same-length
 same-length c = search needs
