@@ -10,8 +10,7 @@ help:
 	@echo 'make speed        time each call against that implementation and a plain pass'
 
 run:
-	rt check bench_main > /dev/null
-	./target/bin/bench_main < crates/bench_main/stdin
+	@tools/run bench_main
 
 test:
 	bash .ci/run

@@ -6,7 +6,8 @@
  * number but BENCH_DONE) leaves every word of the store and every byte of the output as it was.
  *
  * What the caller owes, since C does not check it: a pointer is valid and aligned for its whole count, never NULL (for a count of 0 any aligned
- * address that isn't NULL will do), and no slice that a call writes overlaps another slice of the same call. Nothing else is asked. */
+ * address that isn't NULL will do), and no slice that a call writes overlaps another slice of the same call. Nothing else is asked, but for the stack: bench_rollback and
+ * a rollback by bench_line take some 141 KiB of it for their arrays, the other calls less. */
 #ifndef BENCH_H
 #define BENCH_H
 
@@ -90,6 +91,9 @@ uint64_t bench_undeliver(uint32_t *store, size_t store_len, uint32_t p);
 /* Undoes p's newest passing of checkpoint t, all that depends on it and nothing else. DONE with the count of events undone as the value,
  * NO_PROCESS, NO_CHECKPOINT, HELD (never in a store that was loaded and changed by these calls alone). */
 uint64_t bench_rollback(uint32_t *store, size_t store_len, uint32_t p, uint32_t t);
+
+/* No listing has more bytes than this, whatever the sizes. */
+#define BENCH_LISTING_MOST 65536
 
 /* Writes the listing. DONE with its length as the value; NO_ROOM where the output is shorter. Bytes past the listing stay as they were. */
 uint64_t bench_listing(const uint32_t *store, size_t store_len, uint8_t *out, size_t out_len);

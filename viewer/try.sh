@@ -1,5 +1,5 @@
 #!/bin/sh
-# Runs a viewer on the tour's module, whose answers must be those of the program `tour`, and on the first cases of the corpus; any complaint
+# Runs a viewer on the tour's module, whose answers must be those of viewer/tour.stdout, and on the first cases that the gate runs; any complaint
 # of a sanitizer ends it.
 # usage: viewer/try.sh VIEWER [CASES]
 set -eu
@@ -9,14 +9,14 @@ folder=$(mktemp -d)
 trap 'rm -rf "$folder"' EXIT
 "$viewer" viewer/drives.hex 5 16 64 < viewer/drives.txt > "$folder/tour"
 sed -n 's/^\(load: \)\{0,1\}\([0-9][0-9]*\) [a-z].*/\2/p' "$folder/tour" > "$folder/seen"
-sed -n 's/^answer=//p' crates/tour/stdout > "$folder/wanted"
+sed -n 's/^answer=//p' viewer/tour.stdout > "$folder/wanted"
 cmp "$folder/seen" "$folder/wanted"
-# A case of the corpus begins with a line load=PLACES ENTRIES WORDS MODULE.. in hex; `list`, `short=`, `clear` and `alter=` are lines of the corpus alone.
+# A case begins with a line load=PLACES ENTRIES WORDS MODULE.. in hex; `list`, `short=`, `clear` and `alter=` are lines of that program alone.
 awk -v folder="$folder" -v most="$cases" '
     /^load=/ { count++; if (count > most) exit; split(substr($0, 6), w, " "); print w[1], w[2], w[3] > (folder "/" count ".sizes")
                line = ""; for (i = 4; i in w; i++) line = line " " w[i]; print line > (folder "/" count ".hex"); printf "" > (folder "/" count ".txt"); next }
     count && !/^(list|short=|clear|alter=)/ { print > (folder "/" count ".txt") }
-' crates/bench_corpus/stdin
+' crates/bench_cases/stdin
 ran=0
 for module in "$folder"/*.hex; do
     name=${module%.hex}
@@ -29,4 +29,4 @@ for module in "$folder"/*.hex; do
     fi
     ran=$((ran + 1))
 done
-echo "the tour and $ran cases of the corpus: no complaint"
+echo "the tour and $ran cases: no complaint"

@@ -14,8 +14,8 @@ use Rattle.rules.specs.Flight.{sends, left, flies}
 use Rattle.rules.specs.Commands.{Command, back, undeliver, Plan, refuse, accept, need, nothing, ownQueue, other, post, apply, undone, untouched, undoing, undelivering, atProcess, run, afterPlan, runState}
 use Rattle.rules.specs.Refusals.{for-back, for-undeliver, not-in-pool, no-entry, no-message-queued, message-held}
 use Rattle.rules.specs.Rules.{process}
-use Rattle.rules.proofs.Plans.{need-true}
-use Rattle.rules.proofs.Refusals.{refuses}
+use Rattle.demands.proofs.Plans.{need-true}
+use Rattle.demands.proofs.Refusals.{refuses}
 use Rattle.store.specs.Layout.{nameWord, image}
 use Rattle.store.proofs.SoundStates.{in-places}
 use Rattle.reading.specs.Reads.{Holds, OfState, IsPlace}

@@ -15,8 +15,8 @@ use Rattle.rules.specs.State.{Message, Kind, seq, send, rec, spawn, self, check
 use Rattle.rules.specs.Flight.{sends, leftOr, left, flies}
 use Rattle.rules.specs.Commands.{back, Deed, Move, accept, need, undone, untouched, undoing, backing, atProcess, run}
 use Rattle.rules.specs.Sound.{Prefix}
-use Rattle.rules.proofs.Messages.{same-queue, queue-same}
-use Rattle.rules.proofs.SoundFacts.{flows-left}
+use Rattle.demands.proofs.Messages.{same-queue, queue-same}
+use Rattle.demands.proofs.SoundFacts.{flows-left}
 use Rattle.store.specs.Layout.{kindSend, kindRec, kindSpawn, nameWord, kindNumber, numberIn}
 use Rattle.reading.specs.Reads.{Holds, OfState, IsPlace, Lives, IsEntry, OfEntry, IsSend, OfSend, oldest}
 use Rattle.backward.specs.Undoing.{IsNewest, isAccepted}

@@ -8,7 +8,7 @@ use lib.ListN.{length, length-append, length-map}
 use Rattle.rules.specs.State.{asRec, Entry, State, historyAt, entryAt}
 use Rattle.rules.specs.Flight.{leftOr, left}
 use Rattle.rules.specs.Depends.{queueBefore}
-use Rattle.rules.proofs.Histories.{left-older}
+use Rattle.demands.proofs.Histories.{left-older}
 use Rattle.store.specs.Layout.{kindRec, nameWord, kindNumber}
 use Rattle.store.specs.Image.{IsImage}
 use Rattle.reading.specs.Reads.{Holds, OfState, IsEntry, OfEntry, oldest}

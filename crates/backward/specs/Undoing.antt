@@ -1,4 +1,4 @@
--- What the code of back and undeliver promises of a store that holds a state. Assumes nothing: these are definitions.
+-- What the code of back and undeliver promises of a store that holds a state.
 use Prim.Native.Nat.{ℕ, suc}
 use mathlib.Core.Path.{_≡_}
 use mathlib.Core.Bool.{Bool, true, false}

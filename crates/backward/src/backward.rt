@@ -14,7 +14,7 @@ ghost use Rattle.calls.specs.Numbers.{CommandCall};
 ghost use Rattle.calls.specs.Answering.{Does};
 
 // p's newest entry is undone, in a store that holds a state.
-fn back_held(store: &mut [u32], p: u32) -> Answer
+fn back_sound(store: &mut [u32], p: u32) -> Answer
     requires { ⌜ IsImage (now store) ⌝ }
     ensures { λ r. ⌜ Does (backOf p) (now (store .entry)) (now (store .exit)) r ⌝ }
 {
@@ -39,11 +39,11 @@ pub fn back(store: &mut [u32], p: u32) -> Answer
     if !sound(store) {
         return Answer::NotAState;
     }
-    back_held(store, p)
+    back_sound(store, p)
 }
 
 // The newest message of p's queue goes back into flight, in a store that holds a state.
-fn undeliver_held(store: &mut [u32], p: u32) -> Answer
+fn undeliver_sound(store: &mut [u32], p: u32) -> Answer
     requires { ⌜ IsImage (now store) ⌝ }
     ensures { λ r. ⌜ Does (undeliverOf p) (now (store .entry)) (now (store .exit)) r ⌝ }
 {
@@ -68,5 +68,5 @@ pub fn undeliver(store: &mut [u32], p: u32) -> Answer
     if !sound(store) {
         return Answer::NotAState;
     }
-    undeliver_held(store, p)
+    undeliver_sound(store, p)
 }

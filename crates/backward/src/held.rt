@@ -8,7 +8,7 @@ use reading::mail::sends_before;
 use reading::mail::target;
 use reading::state::entry_count;
 use reading::state::queue;
-use store::layout::NAME_BASE;
+use rows::words::NAME_BASE;
 use store::layout::REC;
 use store::layout::SEND;
 use store::layout::SPAWN;

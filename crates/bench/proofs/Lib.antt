@@ -1,10 +1,2 @@
 pub mod Packed
 pub mod LoadLaws
-pub mod LineLaws
-pub mod ReplyRoom
-pub mod OneReply
-pub mod AfterRequest
-pub mod PrintsLaws
-pub mod Conversation
-pub mod InputLaws
-pub mod Program

@@ -13,7 +13,7 @@ use Rattle.term.specs.Module.{longestModule, checkModule}
 use Rattle.rules.specs.State.{Sizes}
 use Rattle.rules.specs.Load.{goodSizes}
 use Rattle.store.specs.Layout.{needed}
-use Rattle.store.specs.Loading.{Outcome, numberOf, valueOf, afterLoad, loadInto, LoadAnswers}
+use Rattle.store.specs.Loading.{Outcome, loadNumber, loadValue, afterLoad, loadInto, LoadAnswers}
 use Rattle.store.specs.declared.load.Loaded.{Loaded}
 use Rattle.store.specs.declared.load.Loaded.the-variants.{Done, BadSizes, BadModule}
 use Rattle.store.proofs.LoadCodeAnswers.{into-short, into-load, load-refused, load-loads}
@@ -24,17 +24,9 @@ use Rattle.bench.proofs.Packed.{returned-is}
 use Rattle.term.proofs.PositionLaws.{bad-position}
 
 module _ (module′ : List ℕ) (sizes : Sizes) (entry exit : List ℕ) (a : Loaded) (answers : LoadAnswers module′ sizes entry exit a) where
-  returns-as : (r number value : ℕ) → number < valuePlace → r ≡ value * valuePlace + number → number ≡ numberOf a → value ≡ valueOf a → LoadCall module′ sizes entry (returned r exit)
+  returns-as : (r number value : ℕ) → number < valuePlace → r ≡ value * valuePlace + number → number ≡ loadNumber a → value ≡ loadValue a → LoadCall module′ sizes entry (returned r exit)
   unfolding LoadCall
   returns-as r number value small e n v = returned-is r number value exit small e ∙ (λ j. outcome ((n ∙ answers .number) j) ((v ∙ answers .value) j) (answers .left j))
-
-  pub load-done : a ≡ Done → LoadCall module′ sizes entry (returned 0 exit)
-  unfolding numberOf valueOf
-  load-done is = returns-as 0 0 0 (omega arith) (omega arith) (sym (ap numberOf is)) (sym (ap valueOf is))
-
-  pub load-bad-sizes : a ≡ BadSizes → LoadCall module′ sizes entry (returned 2 exit)
-  unfolding numberOf valueOf
-  load-bad-sizes is = returns-as 2 2 0 (omega arith) (omega arith) (sym (ap numberOf is)) (sym (ap valueOf is))
 
   -- the position that a load answers is one of the module check
   into-small : loadInto module′ sizes entry .value ≤ longestModule
@@ -52,10 +44,17 @@ module _ (module′ : List ℕ) (sizes : Sizes) (entry exit : List ℕ) (a : Loa
           let v : loadInto module′ sizes entry .value ≡ at = ap (λ (o : Outcome). o .value) (into-load module′ sizes entry long ∙ ap (afterLoad entry) (load-refused module′ sizes entry at good e)) in
           omega (arith, bad-position module′ at e)
 
-  pub position-small : (at : ℕ) → a ≡ BadModule at → at ≤ longestModule
-  unfolding valueOf
-  position-small at is = omega (arith, into-small, answers .value, ap valueOf is)
+  number-small : (b : Loaded) → loadNumber b < valuePlace
+  unfolding loadNumber
+  number-small Done = omega arith
+  number-small BadSizes = omega arith
+  number-small (BadModule at) = omega arith
 
-  pub load-bad-module : (at : ℕ) → a ≡ BadModule at → LoadCall module′ sizes entry (returned (at * valuePlace + 1) exit)
-  unfolding numberOf valueOf
-  load-bad-module at is = returns-as (at * valuePlace + 1) 1 at (omega arith) refl (sym (ap numberOf is)) (sym (ap valueOf is))
+  pub position-small : (at : ℕ) → at ≡ loadValue a → at ≤ longestModule
+  position-small at is = omega (arith, into-small, answers .value, is)
+
+  pub number-at-most : (number : ℕ) → number ≡ loadNumber a → number < valuePlace
+  number-at-most number n = omega (arith, n, number-small a)
+
+  pub load-returned : (at number : ℕ) → at ≡ loadValue a → number ≡ loadNumber a → LoadCall module′ sizes entry (returned (at * valuePlace + number) exit)
+  load-returned at number v n = returns-as (at * valuePlace + number) number at (number-at-most number n) refl n v

@@ -1,5 +1,4 @@
--- What the calls for programs in other languages return, and that each is determined. Assumes nothing: these are definitions; `exports-determined`
--- of proofs/ shows the last.
+-- What the calls for programs in other languages return, and that each is determined. `exports-determined` of proofs/ shows the last.
 use Prim.Native.Nat.{ℕ, _/_, _%_}
 use mathlib.Core.Path.{_≡_}
 use mathlib.Core.List.{List}

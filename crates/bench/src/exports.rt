@@ -1,17 +1,18 @@
 // The calls for programs in other languages, on plain numbers and slices. Each returns value × 2^32 + number: 01's number, and the
 // position, count or length that goes with it.
-use crate::lines::line;
 use backward::backward::back;
 use backward::backward::undeliver;
 use calls::answers::Answer;
 use calls::answers::number;
 use calls::answers::value;
-use forward::commands::deliver;
+use calls::load_answers::load_number;
+use calls::load_answers::load_position;
+use delivery::delivery::deliver;
 use forward::commands::spawn;
 use forward::commands::step;
+use lines::lines::line;
 use listing::listing::listing;
 use rollback::rollback::rollback;
-use store::load::Loaded;
 use store::load::load;
 ghost use mathlib.Core.Path.{_≡_};
 ghost use Rattle.rules.specs.Commands.{step as stepOf, spawnInto, deliver as deliverOf, back as backOf, undeliver as undeliverOf};
@@ -43,11 +44,9 @@ pub extern "C" fn bench_load(
     ensures { λ r. ⌜ LoadCall (now («module» .entry)) (sizesOf places entries words) (now (store .entry)) (returned r (now (store .exit))) ⌝ }
 {
     let loaded = load(module, places, entries, words, store);
-    match loaded {
-        Loaded::Done => 0,
-        Loaded::BadSizes => 2,
-        Loaded::BadModule(at) => at as u64 * VALUE_PLACE + 1,
-    }
+    let at = load_position(loaded);
+    let number = load_number(loaded);
+    at as u64 * VALUE_PLACE + number as u64
 }
 
 // One step of p that isn't a spawn.

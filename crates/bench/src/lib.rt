@@ -1,4 +1,2 @@
-// The calls for programs in other languages, command lines, and the program's input.
+// The calls for programs in other languages.
 pub mod exports;
-pub mod input;
-pub mod lines;

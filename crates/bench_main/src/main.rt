@@ -1,10 +1,9 @@
 // The program bench: an answer for each command line of its input, then the listing.
-use bench::input::last_line;
-use scripts::input::Lines;
-use scripts::input::read_all;
-use scripts::printing::REPLY;
+use blocks::blocks::answer_last;
+use input::reading::Lines;
+use input::reading::read_all;
+use lines::input::LONGEST_GOOD;
 use scripts::printing::list;
-use scripts::printing::print;
 use store::load::load;
 
 // The module that it holds, and its sizes.
@@ -19,14 +18,7 @@ const WORDS: u32 = 64;
 // How many words its store has, and how many bytes of a line are kept: more than any good line has.
 const STORE: usize = 10816;
 
-const LINE: usize = 32;
-
-// Prints the reply to a last line that has no LF.
-fn answer_last(store: &mut [u32], line: &[u8]) {
-    let mut out = [0u8; REPLY];
-    let end = last_line(store, line, &mut out);
-    print(&out, end);
-}
+const LINE: usize = LONGEST_GOOD + 1;
 
 fn main() {
     let mut store = [0u32; STORE];

@@ -14,11 +14,11 @@ use Rattle.rules.specs.Commands.{Command, Plan, refuse, accept, apply, run, aft
 use Rattle.rules.specs.Sound.{Sound}
 use Rattle.rules.specs.Line.{Request, single, rollbackTo}
 use Rattle.rules.specs.Refusals.{Refused, not-in-pool, is-finished, step-at-spawn, spawn-elsewhere, nothing-matches, is-stuck, target-missing, beyond-places, place-in-pool, too-large, history-full, not-in-flight, no-entry, no-message-queued, entry-held, message-held}
-use Rattle.rules.specs.Rollback.{Undos, stop, undo, Rollback, is-done, is-held, no-check, no-process, RolledBack, refused, rolled, numberOf, countOf, endOf, rollback}
+use Rattle.rules.specs.Rollback.{Undos, stop, undo, Rollback, is-done, is-held, no-check, no-process, RolledBack, refused, rolled, rolledNumber, rolledCount, rolledState, rollback}
 use Rattle.rules.specs.Replies.{ofPlan, ofRollback, perform}
-use Rattle.rules.specs.Demands.{Reachable}
-use Rattle.rules.proofs.Demands.{demands}
-use Rattle.rules.proofs.RollbackDemands.{rollback-demands}
+use Rattle.demands.specs.Demands.{Reachable}
+use Rattle.demands.proofs.Consequences.{consequences}
+use Rattle.demands.proofs.Demands.{demand2}
 use Rattle.store.specs.Layout.{image}
 use Rattle.store.specs.Loading.{Outcome}
 use Rattle.calls.specs.Calls.{outcome, countIn, stored, RequestCall}
@@ -27,16 +27,16 @@ use Rattle.calls.specs.Promises.{RollbackStored}
 -- the numbers of refusals lie between `done` and 15
 pub refused-between : {s : State} {c : Command} {n : ℕ} → Refused s c n → (done < n) × (n < notAState)
 refused-between (not-in-pool a b) = (omega arith, omega arith)
-refused-between (is-finished a b d) = (omega arith, omega arith)
-refused-between (step-at-spawn a b) = (omega arith, omega arith)
+refused-between (is-finished a b) = (omega arith, omega arith)
+refused-between (step-at-spawn a) = (omega arith, omega arith)
 refused-between (spawn-elsewhere a b d) = (omega arith, omega arith)
-refused-between (nothing-matches a b d) = (omega arith, omega arith)
-refused-between (is-stuck a b) = (omega arith, omega arith)
-refused-between (target-missing a b d) = (omega arith, omega arith)
-refused-between (beyond-places a b d) = (omega arith, omega arith)
-refused-between (place-in-pool a b d e) = (omega arith, omega arith)
-refused-between (too-large a b d e) = (omega arith, omega arith)
-refused-between (history-full a b d e f) = (omega arith, omega arith)
+refused-between (nothing-matches a b) = (omega arith, omega arith)
+refused-between (is-stuck a) = (omega arith, omega arith)
+refused-between (target-missing a b) = (omega arith, omega arith)
+refused-between (beyond-places a b) = (omega arith, omega arith)
+refused-between (place-in-pool a b d) = (omega arith, omega arith)
+refused-between (too-large a b) = (omega arith, omega arith)
+refused-between (history-full a b d) = (omega arith, omega arith)
 refused-between (not-in-flight a) = (omega arith, omega arith)
 refused-between (no-entry a) = (omega arith, omega arith)
 refused-between (no-message-queued a b) = (omega arith, omega arith)
@@ -84,7 +84,7 @@ accepted-stored c a b rest e = accepted-plan a b rest (run c a) e
 done-plan : (s : State) (c : Command) (rest : List ℕ) (plan : Plan) → Sound s → run c s ≡ plan → stored (ofPlan s plan) rest .number ≡ done → (a : State) × (afterPlan plan s ≡ some a)
 unfolding afterPlan ofPlan stored
 done-plan s c rest (refuse number) sound e h =
-    let (above, below) = refused-between (demands .rules .refused-is-listed s c number sound .0 e) in
+    let (above, below) = refused-between (demand2 .refused-is-listed s c number sound .0 e) in
     absurd (omega (arith, h, above))
 done-plan s c rest (accept deed move) sound e h = (apply move s, refl)
 
@@ -93,18 +93,18 @@ unfolding runState perform
 done-accepted s c rest sound h = done-plan s c rest (run c s) sound refl h
 
 -- a rollback stores what `Rollback` allows
-rolled-stored : (s : State) (rest : List ℕ) (r : RolledBack) → stored (ofRollback s r) rest ≡ outcome (numberOf r) (countOf r) (image (endOf s r) ++ rest)
-unfolding stored ofRollback numberOf countOf endOf countIn
+rolled-stored : (s : State) (rest : List ℕ) (r : RolledBack) → stored (ofRollback s r) rest ≡ outcome (rolledNumber r) (rolledCount r) (image (rolledState s r) ++ rest)
+unfolding stored ofRollback rolledNumber rolledCount rolledState countIn
 rolled-stored s rest (refused number) = refl
 rolled-stored s rest (rolled count end) = refl
 
-rolled-after : (s : State) (r : RolledBack) → ofRollback s r .after ≡ endOf s r
-unfolding ofRollback endOf
+rolled-after : (s : State) (r : RolledBack) → ofRollback s r .after ≡ rolledState s r
+unfolding ofRollback rolledState
 rolled-after s (refused number) = refl
 rolled-after s (rolled count end) = refl
 
 pub rollback-outcome : (s : State) (rest : List ℕ) (p t : ℕ)
-    → stored (perform (rollbackTo p t) s) rest ≡ outcome (numberOf (rollback p t s)) (countOf (rollback p t s)) (image (endOf s (rollback p t s)) ++ rest)
+    → stored (perform (rollbackTo p t) s) rest ≡ outcome (rolledNumber (rollback p t s)) (rolledCount (rollback p t s)) (image (rolledState s (rollback p t s)) ++ rest)
 unfolding perform
 rollback-outcome s rest p t = rolled-stored s rest (rollback p t s)
 
@@ -112,9 +112,9 @@ pub rollback-stored : RollbackStored
 unfolding RequestCall
 rollback-stored = record {
   allowed = λ s rest p t o sound call.
-      let e : o ≡ outcome (numberOf (rollback p t s)) (countOf (rollback p t s)) (image (endOf s (rollback p t s)) ++ rest) = call .on-image s rest sound refl ∙ rollback-outcome s rest p t in (
-        endOf s (rollback p t s),
-        subst (λ (x : Outcome). Rollback s p t (x .number) (x .value) (endOf s (rollback p t s))) (sym e) (rollback-demands .exact .allowed s p t sound),
+      let e : o ≡ outcome (rolledNumber (rollback p t s)) (rolledCount (rollback p t s)) (image (rolledState s (rollback p t s)) ++ rest) = call .on-image s rest sound refl ∙ rollback-outcome s rest p t in (
+        rolledState s (rollback p t s),
+        subst (λ (x : Outcome). Rollback s p t (x .number) (x .value) (rolledState s (rollback p t s))) (sym e) (demand2 .rollback-allowed s p t sound),
         ap (λ (x : Outcome). x .left) e,
       );
 }
@@ -129,15 +129,15 @@ pub reach-request : (request : Request) (s : State) → Reachable s → Reachabl
 unfolding perform
 reach-request (single c) s r = reach-plan s c (run c s) r refl
 reach-request (rollbackTo p t) s r =
-    subst Reachable (sym (rolled-after s (rollback p t s))) (reach-rollback (rollback-demands .exact .allowed s p t (demands .sound .reached s r)) r)
+    subst Reachable (sym (rolled-after s (rollback p t s))) (reach-rollback (demand2 .rollback-allowed s p t (consequences .sound .reached s r)) r)
 
 below-plan : (s : State) (c : Command) (plan : Plan) → Sound s → run c s ≡ plan → ofPlan s plan .number < notAState
 unfolding ofPlan
-below-plan s c (refuse number) sound e = refused-between (demands .rules .refused-is-listed s c number sound .0 e) .1
+below-plan s c (refuse number) sound e = refused-between (demand2 .refused-is-listed s c number sound .0 e) .1
 below-plan s c (accept deed move) sound e = omega arith
 
 pub below-request : (request : Request) (s : State) (rest : List ℕ) → Sound s → stored (perform request s) rest .number < notAState
 unfolding perform stored
 below-request (single c) s rest sound = below-plan s c (run c s) sound refl
 below-request (rollbackTo p t) s rest sound =
-    subst (λ (x : Outcome). x .number < notAState) (sym (rolled-stored s rest (rollback p t s))) (rollback-below (rollback-demands .exact .allowed s p t sound))
+    subst (λ (x : Outcome). x .number < notAState) (sym (rolled-stored s rest (rollback p t s))) (rollback-below (demand2 .rollback-allowed s p t sound))

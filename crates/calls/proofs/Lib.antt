@@ -9,3 +9,9 @@ pub mod Loads
 pub mod Returns
 pub mod Shams
 pub mod Promises
+pub mod PastDecides
+pub mod WordsAgree
+pub mod QueuedOnce
+pub mod TextLengths
+pub mod ListingRoom
+pub mod Demand1

@@ -11,20 +11,23 @@ use lib.ListN.{length, drop}
 use Rattle.lists.proofs.Tests.{true-or-false, and-left}
 use Rattle.causal.specs.Exec.{runAll}
 use Rattle.term.specs.Module.{checkModule}
-use Rattle.rules.specs.Answers.{done, badModule, held, notAState, badLine}
+use Rattle.rules.specs.Answers.{done, badModule, badSizes, held, notAState, badLine}
 use Rattle.rules.specs.State.{Sizes, State}
 use Rattle.rules.specs.Load.{goodSizes, loaded, Load, refused, loads, load}
 use Rattle.rules.specs.Sound.{Sound}
 use Rattle.rules.specs.Line.{Request, rollbackTo, parseLine}
 use Rattle.rules.specs.Listing.{listing}
 use Rattle.rules.specs.Replies.{perform}
-use Rattle.rules.specs.Demands.{Reachable}
-use Rattle.rules.proofs.Demands.{demands}
-use Rattle.rules.proofs.RollbackDemands.{rollback-demands}
+use Rattle.demands.specs.Demands.{Reachable}
+use Rattle.demands.proofs.Consequences.{consequences}
+use Rattle.demands.proofs.RollbackDemands.{rollback-demands}
 use Rattle.store.specs.Layout.{needed}
 use Rattle.store.specs.Loading.{Outcome, afterLoad, loadInto}
+use Rattle.store.proofs.LoadCodeAnswers.{into-short, into-load}
+use Rattle.store.proofs.LoadCodeSound.{goes}
+use Rattle.store.proofs.LoadCodeSound
 use Rattle.calls.specs.Calls.{stored, RequestCall, AskedCall, LineCall, written, ListingCall, LoadCall}
-use Rattle.calls.specs.Promises.{Held, by-load, by-refused-load, by-request, by-line, ReachedStore, AfterALoad}
+use Rattle.calls.specs.Promises.{Served, by-load, by-refused-load, by-request, by-line, ReachedStore, AfterALoad}
 use Rattle.calls.proofs.Accepted.{reach-request, below-request, rollback-outcome}
 
 -- a load that is answered 0 leaves the image of the loaded state
@@ -41,27 +44,24 @@ loaded-store module′ sizes entry (some at) good e h =
     absurd (omega (arith, one))
 
 load-into : (module′ : List ℕ) (sizes : Sizes) (entry : List ℕ) → loadInto module′ sizes entry .number ≡ done → ReachedStore (loadInto module′ sizes entry .left)
-unfolding loadInto
 load-into module′ sizes entry h = elim (true-or-false (goodSizes sizes && leb (needed sizes) (length entry))) [
-  | inl good ↦ rw (good, loadInto) (loaded-store module′ sizes entry (checkModule module′) (and-left _ _ good) refl (rw (good, loadInto) at h))
-  | inr bad ↦ let two : _≡_ {A = ℕ} 2 0 = rw (bad, loadInto) at h in absurd (omega (arith, two))
+  | inl good ↦
+      let same = into-load module′ sizes entry good in
+      subst (λ (o : Outcome). ReachedStore (o .left)) (sym same) (loaded-store module′ sizes entry (checkModule module′) (and-left _ _ good) refl (ap (λ (o : Outcome). o .number) (sym same) ∙ h))
+  | inr bad ↦ let two : _≡_ {A = ℕ} badSizes done = ap (λ (o : Outcome). o .number) (sym (into-short module′ sizes entry bad)) ∙ h in absurd (omega (arith, two))
 ]
 
 -- a refused load leaves the words as they were
-after-refused : (entry : List ℕ) (x : Load) → afterLoad entry x .number ≢ done → afterLoad entry x .left ≡ entry
-unfolding afterLoad
-after-refused entry (refused number at) n = refl
-after-refused entry (loads s) n = absurd (n refl)
-
 kept-load : (module′ : List ℕ) (sizes : Sizes) (entry : List ℕ) (o : Outcome) → LoadCall module′ sizes entry o → o .number ≢ done → o .left ≡ entry
-unfolding LoadCall loadInto
-kept-load module′ sizes entry o call n = ap (λ (y : Outcome). y .left) call ∙ elim (true-or-false (goodSizes sizes && leb (needed sizes) (length entry))) [
-  | inl good ↦ rw (good, loadInto) (after-refused entry (load module′ sizes) (λ e. n (ap (λ (y : Outcome). y .number) call ∙ rw (good, loadInto) e)))
-  | inr bad ↦ rw (bad, loadInto) refl
+unfolding LoadCall
+kept-load module′ sizes entry o call n = elim (goes module′ sizes entry) [
+  | LoadCodeSound.short e ↦ ap (λ (y : Outcome). y .left) (call ∙ e)
+  | LoadCodeSound.bad at e ↦ ap (λ (y : Outcome). y .left) (call ∙ e)
+  | LoadCodeSound.good it e ↦ absurd (n (ap (λ (y : Outcome). y .number) (call ∙ e)))
 ]
 
 reached-sound : (s : State) → Reachable s → Sound s
-reached-sound s r = demands .sound .reached s r
+reached-sound s r = consequences .sound .reached s r
 
 of-request : (request : Request) (l : List ℕ) (o : Outcome) (x : ReachedStore l) → RequestCall request l o → o ≡ stored (perform request (x .state)) (x .rest)
 unfolding RequestCall
@@ -81,7 +81,7 @@ unfolding AskedCall
 asked-reached none l o x call = subst ReachedStore (sym (ap (λ (y : Outcome). y .left) call)) x
 asked-reached (some request) l o x call = request-reached request l o x call
 
-pub reached-store : (l : List ℕ) → Held l → ReachedStore l
+pub reached-store : (l : List ℕ) → Served l → ReachedStore l
 unfolding LoadCall LineCall
 reached-store l (by-load module′ entry sizes o call h) =
     subst (λ (y : Outcome). ReachedStore (y .left)) (sym call) (load-into module′ sizes entry (sym (ap (λ (y : Outcome). y .number) call) ∙ h))
@@ -104,7 +104,7 @@ line-answers : (line l : List ℕ) (o : Outcome) → ReachedStore l → LineCall
 unfolding LineCall
 line-answers line l o x call = asked-answers (parseLine line) l o x call
 
-written-answers : (text out : List ℕ) → written text out .number ≢ notAState
+pub written-answers : (text out : List ℕ) → written text out .number ≢ notAState
 unfolding written
 written-answers text out e = elim (true-or-false (leb (length text) (length out))) [
   | inl fits ↦ let zero′ : _≡_ {A = ℕ} 0 15 = rw (fits, written) at e in absurd (omega (arith, zero′))

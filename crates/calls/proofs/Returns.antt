@@ -9,7 +9,7 @@ use Rattle.rules.specs.Commands.{Command, runState}
 use Rattle.rules.specs.Sound.{Sound}
 use Rattle.rules.specs.Line.{single}
 use Rattle.rules.specs.Reverse.{reverse}
-use Rattle.rules.proofs.Demands.{demands}
+use Rattle.demands.proofs.Consequences.{consequences, reverses}
 use Rattle.store.specs.Layout.{image}
 use Rattle.store.specs.Loading.{Outcome}
 use Rattle.calls.specs.Calls.{outcome, RequestCall}
@@ -30,16 +30,16 @@ returns : (s a : State) (rest : List ℕ) (c : Command) (o o′ : Outcome) → S
     → runState (reverse s c) a ≡ some s → RequestCall (single (reverse s c)) (o .left) o′ → (o′ .number ≡ done) × (o′ .left ≡ image s ++ rest)
 returns s a rest c o o′ sound call e back call′ =
     let left = ap (λ (y : Outcome). y .left) (accepted-call s a rest (image s ++ rest) c o sound refl e call) in
-    let same = accepted-call a s rest (o .left) (reverse s c) o′ (demands .sound .stepped s a c sound e) left back call′ in
+    let same = accepted-call a s rest (o .left) (reverse s c) o′ (consequences .sound .stepped s a c sound e) left back call′ in
     (ap (λ (y : Outcome). y .number) same, ap (λ (y : Outcome). y .left) same)
 
 pub words-return : WordsReturn
 words-return = record {
   undone = λ s rest c o o′ sound forward call h call′.
       let (a, e) = done-call s rest c o sound call h in
-      returns s a rest c o o′ sound call e (demands .reverse .undone s a c sound forward e) call′;
+      returns s a rest c o o′ sound call e (consequences .reverse .undone s a c sound forward e) call′;
   retaken = λ s rest c o o′ reached call h call′.
-      let sound = demands .sound .reached s reached in
+      let sound = consequences .sound .reached s reached in
       let (a, e) = done-call s rest c o sound call h in
-      returns s a rest c o o′ sound call e (demands .reverse .retaken s a c reached e) call′;
+      returns s a rest c o o′ sound call e (reverses s a c reached e) call′;
 }

@@ -13,13 +13,13 @@ use Rattle.rules.specs.Sound.{Sound}
 use Rattle.rules.specs.Line.{Request, single}
 use Rattle.rules.specs.Replies.{perform}
 use Rattle.rules.specs.Opened.{opened}
-use Rattle.rules.specs.Cases.{benchSizes}
-use Rattle.rules.proofs.Demands.{demands}
+use Rattle.rules.specs.Bench.{benchModule, benchSizes}
+use Rattle.demands.proofs.Consequences.{consequences}
 use Rattle.store.specs.Layout.{image}
 use Rattle.store.specs.Loading.{Outcome}
 use Rattle.store.proofs.Laws.{image-laws}
 use Rattle.calls.specs.Calls.{outcome, stored, RequestCall}
-use Rattle.calls.specs.Promises.{Bench, Meets, benchModule, loadedBench, loadedStore, firstStep, ShamsCaught}
+use Rattle.calls.specs.Promises.{Bench, Meets, loadedBench, loadedStore, firstStep, ShamsCaught}
 use Rattle.calls.proofs.Returns.{accepted-call}
 
 -- the states after one step and after two
@@ -60,13 +60,13 @@ unfolding opened entriesAt0 once twice
 entries-twice = refl
 
 loaded-sound : Sound loadedBench
-loaded-sound = demands .sound .loaded benchModule benchSizes loadedBench bench-loads
+loaded-sound = consequences .sound .loaded benchModule benchSizes loadedBench bench-loads
 
 once-sound : Sound once
-once-sound = demands .sound .stepped loadedBench once (step 0) loaded-sound first-accepted
+once-sound = consequences .sound .stepped loadedBench once (step 0) loaded-sound first-accepted
 
 twice-sound : Sound twice
-twice-sound = demands .sound .stepped once twice (step 0) once-sound second-accepted
+twice-sound = consequences .sound .stepped once twice (step 0) once-sound second-accepted
 
 -- two images that are equal are of one state
 one-image : (s s′ : State) → Sound s → Sound s′ → image s ++ [] ≡ image s′ ++ [] → entriesAt0 s ≡ entriesAt0 s′

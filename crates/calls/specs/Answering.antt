@@ -1,4 +1,4 @@
--- What a call answers and leaves once it is known that its words hold a state. Assumes nothing: these are definitions.
+-- What a call answers and leaves once it is known that its words hold a state.
 use Prim.Native.Nat.{ℕ}
 use mathlib.Core.Path.{_≡_}
 use mathlib.Core.List.{List}

@@ -1,4 +1,4 @@
--- What each public call answers and leaves, for all inputs. Assumes nothing: these are definitions.
+-- What each public call answers and leaves, for all inputs.
 use Prim.Native.Nat.{ℕ}
 use mathlib.Core.Path.{_≡_}
 use mathlib.Core.Bool.{true, false}
@@ -11,7 +11,7 @@ use Rattle.rules.specs.State.{Sizes, State}
 use Rattle.rules.specs.Sound.{Sound}
 use Rattle.rules.specs.Line.{Request, parseLine}
 use Rattle.rules.specs.Listing.{listing}
-use Rattle.rules.specs.Replies.{Answer, perform}
+use Rattle.rules.specs.Replies.{Reply, perform}
 use Rattle.store.specs.Layout.{image}
 use Rattle.store.specs.Image.{IsImage}
 use Rattle.store.specs.Loading.{Outcome, loadInto}
@@ -36,7 +36,7 @@ countIn none = 0
 countIn (some count) = count
 
 -- an answer on a state, with the image of the state after; words past the image stay
-unfoldable pub stored : Answer → List ℕ → Outcome
+unfoldable pub stored : Reply → List ℕ → Outcome
 stored a rest = outcome (a .number) (countIn (a .undone)) (image (a .after) ++ rest)
 
 -- step, spawn, deliver, back and undeliver (`single`), and rollback (`rollbackTo`)

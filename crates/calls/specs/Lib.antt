@@ -3,3 +3,7 @@ pub mod Calls
 pub mod Promises
 pub mod Numbers
 pub mod Answering
+pub mod PastDecides
+pub mod WordsAgree
+pub mod ListingRoom
+pub mod Demand1

@@ -1,4 +1,4 @@
--- 01's number and value for each case of the code's answers. Assumes nothing: these are definitions.
+-- 01's number and value for each case of the code's answers.
 use Prim.Native.Nat.{ℕ, _+_, _*_}
 use mathlib.Core.List.{List}
 use Rattle.rules.specs.Commands.{Command}

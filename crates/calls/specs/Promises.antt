@@ -1,5 +1,4 @@
--- What follows from the contracts of the calls, and nothing else. Each statement is shown by its name in proofs/. Assumes nothing: these
--- are definitions.
+-- What follows from the contracts of the calls, and nothing else. Each statement is shown by its name in proofs/.
 use Prim.Native.Nat.{ℕ}
 use mathlib.Core.Path.{_≡_}
 use mathlib.Core.Logic.{_≢_}
@@ -13,10 +12,10 @@ use Rattle.rules.specs.Commands.{Command, step}
 use Rattle.rules.specs.Sound.{Sound}
 use Rattle.rules.specs.Line.{Request, single, rollbackTo}
 use Rattle.rules.specs.Reverse.{reverse, isForward}
-use Rattle.rules.specs.Demands.{Reachable}
+use Rattle.demands.specs.Demands.{Reachable}
 use Rattle.rules.specs.Replies.{perform}
 use Rattle.rules.specs.Rollback.{Rollback}
-use Rattle.rules.specs.Cases.{benchSizes}
+use Rattle.rules.specs.Bench.{benchModule, benchSizes}
 use Rattle.store.specs.Layout.{needed, image}
 use Rattle.store.specs.Image.{IsImage}
 use Rattle.store.specs.Loading.{Outcome}
@@ -60,11 +59,11 @@ pub record RollbackStored : Type 0 where
       → (end : State) × Rollback s p t (o .number) (o .value) end × (o .left ≡ image end ++ rest)
 
 -- a store after a load and any calls
-pub data Held : List ℕ → Type 0 where
-  by-load : (module′ entry : List ℕ) (sizes : Sizes) (o : Outcome) → LoadCall module′ sizes entry o → o .number ≡ done → Held (o .left)
-  by-refused-load : (module′ entry : List ℕ) (sizes : Sizes) (o : Outcome) → Held entry → LoadCall module′ sizes entry o → o .number ≢ done → Held (o .left)
-  by-request : (entry : List ℕ) (request : Request) (o : Outcome) → Held entry → RequestCall request entry o → Held (o .left)
-  by-line : (entry line : List ℕ) (o : Outcome) → Held entry → LineCall line entry o → Held (o .left)
+pub data Served : List ℕ → Type 0 where
+  by-load : (module′ entry : List ℕ) (sizes : Sizes) (o : Outcome) → LoadCall module′ sizes entry o → o .number ≡ done → Served (o .left)
+  by-refused-load : (module′ entry : List ℕ) (sizes : Sizes) (o : Outcome) → Served entry → LoadCall module′ sizes entry o → o .number ≢ done → Served (o .left)
+  by-request : (entry : List ℕ) (request : Request) (o : Outcome) → Served entry → RequestCall request entry o → Served (o .left)
+  by-line : (entry line : List ℕ) (o : Outcome) → Served entry → LineCall line entry o → Served (o .left)
 
 -- it is the image of a state reached from a load
 pub record ReachedStore (l : List ℕ) : Type 0 where
@@ -74,13 +73,13 @@ pub record ReachedStore (l : List ℕ) : Type 0 where
   pub words : l ≡ image state ++ rest
 
 pub record AfterALoad : Type 0 where
-  pub reached : (l : List ℕ) → Held l → ReachedStore l
+  pub reached : (l : List ℕ) → Served l → ReachedStore l
   -- no call is answered 15
-  pub request : (request : Request) (l : List ℕ) (o : Outcome) → Held l → RequestCall request l o → o .number ≢ notAState
-  pub line : (line l : List ℕ) (o : Outcome) → Held l → LineCall line l o → o .number ≢ notAState
-  pub listing : (l out : List ℕ) (o : Outcome) → Held l → ListingCall l out o → o .number ≢ notAState
+  pub request : (request : Request) (l : List ℕ) (o : Outcome) → Served l → RequestCall request l o → o .number ≢ notAState
+  pub line : (line l : List ℕ) (o : Outcome) → Served l → LineCall line l o → o .number ≢ notAState
+  pub listing : (l out : List ℕ) (o : Outcome) → Served l → ListingCall l out o → o .number ≢ notAState
   -- "After a load, rollback never gives 13."
-  pub rollback : (p t : ℕ) (l : List ℕ) (o : Outcome) → Held l → RequestCall (rollbackTo p t) l o → o .number ≢ held
+  pub rollback : (p t : ℕ) (l : List ℕ) (o : Outcome) → Served l → RequestCall (rollbackTo p t) l o → o .number ≢ held
 
 -- "undoing the step just taken .. gives the earlier state exactly": the same words, in every store of a sound state
 pub record WordsReturn : Type 0 where
@@ -98,9 +97,6 @@ unfoldable pub Meets : Bench → Type 0
 Meets bench = (request : Request) (entry : List ℕ) → RequestCall request entry (bench request entry)
 
 -- the store of the program bench after its load, and its first command
-abbrev pub benchModule : List ℕ
-benchModule = 0x12000000 ∷ 0x0B020000 ∷ 0x10000007 ∷ 0x01000000 ∷ []
-
 abbrev pub loadedBench : State
 loadedBench = loaded benchModule benchSizes
 

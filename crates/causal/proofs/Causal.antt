@@ -5,7 +5,7 @@ use mathlib.Core.List.{List, [], _∷_, _++_, append-assoc, append-nil}
 use Prim.Native.Nat.{ℕ, _+_}
 use native.Mathlib.Omega.{arith}
 use lib.ListN.{length}
-use Rattle.causal.specs.Paths.{Run, done, more, Reachable, remove, Turns, unchanged, changed, Directed, stay, go}
+use Rattle.causal.specs.Paths.{Run, done, more, ReachedFrom, remove, Turns, unchanged, changed, Directed, stay, go}
 use Rattle.causal.specs.Laws.{Laws}
 use Rattle.causal.specs.Causal.{ForwardOnly, Consistency}
 use Rattle.causal.proofs.Runs.{run-append, run-deterministic, good-run}
@@ -41,7 +41,7 @@ module _ {State Command : Type 0} {Step : State → Command → State → Type 0
       (us ++ undo, run-append back undone, nothing)
 
   -- Sequences that end alike are led down to the root, where all are alike, and up again.
-  end-alike : {s e : State} {ts us : List Command} → Reachable Step root s → Run Step s ts e → Run Step s us e
+  end-alike : {s e : State} {ts us : List Command} → ReachedFrom Step root s → Run Step s ts e → Run Step s us e
       → Turns Step reverse Independent s ts us
   end-alike {s} {ts} {us} (history, r) p q =
       let good = good-run laws (laws .good-root) r in
@@ -53,7 +53,7 @@ module _ {State Command : Type 0} {Step : State → Command → State → Type 0
       let below = to-root-alike laws good (run-append p fall) (run-append q fall) in
       turns-join left (turns-join (turns-append laws up good (run-append (run-append p fall) rise) below) (turns-back laws q right))
 
-  turns-same : {s a b : State} {ts us : List Command} → Reachable Step root s → Run Step s ts a → Run Step s us b
+  turns-same : {s a b : State} {ts us : List Command} → ReachedFrom Step root s → Run Step s ts a → Run Step s us b
       → Turns Step reverse Independent s ts us → a ≡ b
   turns-same (history, r) p q turns = run-deterministic laws (turns-keeps laws (good-run laws (laws .good-root) r) turns _ .0 p) q
 

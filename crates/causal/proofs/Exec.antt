@@ -7,7 +7,8 @@ use mathlib.Core.List.{List, [], _∷_}
 use Prim.Native.Nat.{ℕ}
 use Rattle.causal.specs.Paths.{Run, done, more}
 use Rattle.causal.specs.Laws.{Laws}
-use Rattle.causal.specs.Exec.{Step, runAll, ConsistencyOfRuns}
+use Rattle.causal.specs.Exec.{Step, runAll}
+use Rattle.causal.specs.RunsAgree.{ConsistencyOfRuns}
 use Rattle.causal.proofs.Causal.{consistency}
 
 options-alike : {A : Type 0} (x y : Option A) → ((a : A) → (x ≡ some a) ↔ (y ≡ some a)) → x ≡ y

@@ -5,7 +5,7 @@ use mathlib.Core.Logic.{_↔_}
 use mathlib.Core.List.{List, _++_}
 use Prim.Native.Nat.{ℕ, _+_, _≤_}
 use lib.ListN.{length}
-use Rattle.causal.specs.Paths.{Run, Reachable, Change, Turns, Directed}
+use Rattle.causal.specs.Paths.{Run, ReachedFrom, Change, Turns, Directed}
 
 module _ {State Command : Type 0} (Step : State → Command → State → Type 0) (reverse : State → Command → Command)
     (Independent : State → Command → Command → Type 0) (forward : Command → Bool) where
@@ -39,5 +39,5 @@ module _ {State Command : Type 0} (Step : State → Command → State → Type 0
     -- From the root each accepted sequence turns into one that only goes forward.
     pub forward-only : {e : State} {ts : List Command} → Run Step root ts e → ForwardOnly measure root ts e
     -- Causal consistency: from a reachable state two accepted sequences end in equal states exactly when one turns into the other.
-    pub causal : {s a b : State} {ts us : List Command} → Reachable Step root s → Run Step s ts a → Run Step s us b
+    pub causal : {s a b : State} {ts us : List Command} → ReachedFrom Step root s → Run Step s ts a → Run Step s us b
         → (a ≡ b) ↔ Turns Step reverse Independent s ts us

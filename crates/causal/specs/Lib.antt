@@ -3,3 +3,4 @@ pub mod Paths
 pub mod Laws
 pub mod Causal
 pub mod Exec
+pub mod RunsAgree

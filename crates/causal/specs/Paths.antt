@@ -15,9 +15,9 @@ module _ {State Command : Type 0} (Step : State → Command → State → Type 0
   abbrev pub Accepted : State → List Command → Type 0
   Accepted s ts = (e : State) × Run s ts e
 
-  -- `Reachable root s`: some sequence of commands leads from `root` to `s`.
-  abbrev pub Reachable : State → State → Type 0
-  Reachable root s = (ts : List Command) × Run root ts s
+  -- `ReachedFrom root s`: some sequence of commands leads from `root` to `s`.
+  abbrev pub ReachedFrom : State → State → Type 0
+  ReachedFrom root s = (ts : List Command) × Run root ts s
 
   -- `reverse s t` is the command that reverses `t` taken at `s`. `Independent s t u`: at `s` the commands `t` and `u` do not touch each other.
   module _ (reverse : State → Command → Command) (Independent : State → Command → Command → Type 0) where

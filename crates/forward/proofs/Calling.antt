@@ -8,16 +8,16 @@ use lib.ListN.{length, take}
 use lib.Seq.{length-take-le}
 use Rattle.rules.specs.State.{inPool}
 use Rattle.rules.specs.Commands.{step, spawnInto, atProcess, run}
-use Rattle.rules.proofs.Frame.{no-process}
+use Rattle.demands.proofs.Frame.{no-process}
 use Rattle.store.specs.Image.{IsImage}
 use Rattle.calls.specs.Numbers.{numberOf, valueOf}
 use Rattle.calls.specs.declared.answers.Answer.the-variants.{NoProcess}
 use Rattle.reading.specs.Reads.{OfState, Lives}
 use Rattle.calls.specs.Answering.{Does}
-use Rattle.forward.specs.Forward.{Sized}
+use Rattle.making.specs.Making.{Sized}
 use Rattle.calls.proofs.Answering.{does-refused}
 use Rattle.reading.proofs.Holding.{at-image}
-use Rattle.forward.proofs.Living.{sizes-of}
+use Rattle.making.proofs.Living.{sizes-of}
 
 module _ (entry : List ℕ) (p : ℕ) (b : Bool) (pool : OfState entry (λ s. b ≡ inPool s p)) where
   pub step-nobody : b ≡ false → Does (step p) entry entry NoProcess

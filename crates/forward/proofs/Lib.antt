@@ -1,11 +1,2 @@
--- Step, spawn and deliver answer and leave what `run` gives.
-pub mod Living
-pub mod Becoming
-pub mod NextRows
-pub mod Made
-pub mod Steps
-pub mod Spawning
-pub mod Mailing
-pub mod Picks
-pub mod Delivering
+-- Step and spawn answer and leave what `run` gives.
 pub mod Calling

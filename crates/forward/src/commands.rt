@@ -1,21 +1,14 @@
-// Step, spawn and deliver.
-use crate::stepping::spawn_live;
-use crate::stepping::step_live;
+// Step and spawn.
 use calls::answers::Answer;
-use reading::found::Found;
-use reading::mail::find_send;
-use reading::mail::has_come;
-use reading::mail::target;
 use reading::state::in_pool;
 use reading::state::most_words;
 use soundness::sound::sound;
+use stepping::stepping::spawn_live;
+use stepping::stepping::step_live;
 use store::layout::CONTROL_ROOM;
-use store::layout::NAME_BASE;
-use writing::posting::post;
-ghost use Rattle.rules.specs.Commands.{step as stepOf, spawnInto, deliver as deliverOf};
+ghost use Rattle.rules.specs.Commands.{step as stepOf, spawnInto};
 ghost use Rattle.store.specs.Image.{IsImage};
 ghost use Rattle.calls.specs.Numbers.{CommandCall};
-ghost use Rattle.reading.specs.Reads.{OfState, SendAt};
 ghost use Rattle.calls.specs.Answering.{Does};
 
 fn step_sound(store: &mut [u32], p: u32) -> Answer
@@ -61,41 +54,4 @@ pub fn spawn(store: &mut [u32], p: u32, f: u32) -> Answer
         return Answer::NotAState;
     }
     spawn_sound(store, p, f)
-}
-
-// The message of the send that is entry i of s.
-fn deliver_send(store: &mut [u32], s: u32, k: u32, i: usize) -> Answer
-    requires { ⌜ IsImage (now store) × OfState (now store) (SendAt s k i) ⌝ }
-    ensures { λ r. ⌜ Does (deliverOf s k) (now (store .entry)) (now (store .exit)) r ⌝ }
-{
-    let t = target(store, s as usize, i);
-    let name = s * NAME_BASE + k;
-    if has_come(store, t as usize, name) {
-        return Answer::NoMessage;
-    }
-    post(store, t as usize, name);
-    Answer::Done(0)
-}
-
-fn deliver_sound(store: &mut [u32], s: u32, k: u32) -> Answer
-    requires { ⌜ IsImage (now store) ⌝ }
-    ensures { λ r. ⌜ Does (deliverOf s k) (now (store .entry)) (now (store .exit)) r ⌝ }
-{
-    if !in_pool(store, s) {
-        return Answer::NoMessage;
-    }
-    let Found::At(i) = find_send(store, s as usize, k) else {
-        return Answer::NoMessage;
-    };
-    deliver_send(store, s, k, i)
-}
-
-// Message s.k comes from flight to the end of its target's queue.
-pub fn deliver(store: &mut [u32], s: u32, k: u32) -> Answer
-    ensures { λ r. ⌜ CommandCall (deliverOf s k) (now (store .entry)) (now (store .exit)) r ⌝ }
-{
-    if !sound(store) {
-        return Answer::NotAState;
-    }
-    deliver_sound(store, s, k)
 }

@@ -1,6 +1,2 @@
-// Step, spawn and deliver on a store.
+// Step and spawn on a store.
 pub mod commands;
-pub mod making;
-pub mod next;
-pub mod picking;
-pub mod stepping;

@@ -10,7 +10,7 @@ use lib.ListN.{length, drop}
 use Rattle.lists.specs.Lists.{keep, joined, upTo}
 use Rattle.lists.proofs.Lists.{keep-nil, joined-last}
 use Rattle.rules.specs.State.{Letter, letter, Entry, State, historyAt}
-use Rattle.rules.specs.Flight.{sends, sent, hasCome, flies, inFlight, Name, name, flightOf, flight}
+use Rattle.rules.specs.Flight.{sends, sent, hasCome, flies, isFlying, Name, name, flightOf, flight}
 use Rattle.rules.specs.Text.{spaced, line, bytes, lineFeed, space}
 use Rattle.rules.specs.Listing.{nameText, flightText}
 use Rattle.rules.specs.Sound.{Sound}
@@ -40,15 +40,15 @@ sent-small : (s : State) (p k : ℕ) {l : Letter} → Sound s → sent (historyA
 sent-small s p k x e =
     omega (arith, sent-below (historyAt s p) k e, sends-few (historyAt s p), x .history-fits p, sizes-in (s .sizes) (x .sizes-pass) .entries-high)
 
-flies-so : (s : State) (p k t : ℕ) (v : List ℕ) (b : Bool) → Sound s → sent (historyAt s p) k ≡ some (letter t v) → b ≡ hasCome s p k t → not b ≡ inFlight s p k
-unfolding inFlight flies
-flies-so s p k t v b x e h = rw (e, x .targets-in-pool p k t v e, h, inFlight, flies) refl
+flies-so : (s : State) (p k t : ℕ) (v : List ℕ) (b : Bool) → Sound s → sent (historyAt s p) k ≡ some (letter t v) → b ≡ hasCome s p k t → not b ≡ isFlying s p k
+unfolding isFlying flies
+flies-so s p k t v b x e h = rw (e, x .targets-in-pool p k t v e, h, isFlying, flies) refl
 
 module _ (l : List ℕ) (p k : ℕ) (r : Found) (found : OfState l (λ s. SendFound (historyAt s p) k r)) where
   -- no such send
-  pub not-sent : r ≡ Nowhere → OfState l (λ s. false ≡ inFlight s p k)
-  unfolding OfState SendFound inFlight
-  not-sent e s rest x = let n : sent (historyAt s p) k ≡ none = (let f = found s rest x in rw e at f) in rw (n, inFlight) refl
+  pub not-sent : r ≡ Nowhere → OfState l (λ s. false ≡ isFlying s p k)
+  unfolding OfState SendFound isFlying
+  not-sent e s rest x = let n : sent (historyAt s p) k ≡ none = (let f = found s rest x in rw e at f) in rw (n, isFlying) refl
 
   module _ (i : ℕ) (at : r ≡ At i) where
     pub is-send : OfState l (IsSend p i)
@@ -67,7 +67,7 @@ module _ (l : List ℕ) (p k : ℕ) (r : Found) (found : OfState l (λ s. SendFo
           let g = in-places s (x .sound) (f .target) (x .sound .targets-in-pool p k (f .target) (f .value) (f .is-kth)) in
           omega arith
 
-      pub flies-unless-come : (b : Bool) (n : ℕ) → n ≡ p * nameBase + k → OfState l (λ s. b ≡ hasCome s (n / nameBase) (n % nameBase) t) → OfState l (λ s. not b ≡ inFlight s p k)
+      pub flies-unless-come : (b : Bool) (n : ℕ) → n ≡ p * nameBase + k → OfState l (λ s. b ≡ hasCome s (n / nameBase) (n % nameBase) t) → OfState l (λ s. not b ≡ isFlying s p k)
       unfolding OfState OfSend
       flies-unless-come b n e come s rest x =
           let f = sent-at s p k i r at (found s rest x) in
@@ -121,12 +121,12 @@ followed-one x from to old mid new next g w b = record { wrote = rw (append-nil 
 
 -- ---- one name
 
-module _ (l : List ℕ) (s k : ℕ) (b : Bool) (flying : OfState l (λ state. b ≡ inFlight state s k)) (from to : Row) (old : List ℕ) where
-  pub name-not : b ≡ false → to .to ≡ onward (from .to + 0) → to .before ≡ from .before → length old < far → OfState l (λ state. Followed (nameIf (inFlight state s k) s k) from old old to)
+module _ (l : List ℕ) (s k : ℕ) (b : Bool) (flying : OfState l (λ state. b ≡ isFlying state s k)) (from to : Row) (old : List ℕ) where
+  pub name-not : b ≡ false → to .to ≡ onward (from .to + 0) → to .before ≡ from .before → length old < far → OfState l (λ state. Followed (nameIf (isFlying state s k) s k) from old old to)
   unfolding OfState nameIf
   name-not e r q short state rest x = rw (sym (flying state rest x) ∙ e, nameIf) (followed-none from to old r q short)
 
-  pub name-so : (mid new : List ℕ) (next : ℕ) → b ≡ true → Wrote (gap (from .before)) (from .to) old mid next → Wrote (nameText s k) next mid new (to .to) → to .before ≡ 1 → OfState l (λ state. Followed (nameIf (inFlight state s k) s k) from old new to)
+  pub name-so : (mid new : List ℕ) (next : ℕ) → b ≡ true → Wrote (gap (from .before)) (from .to) old mid next → Wrote (nameText s k) next mid new (to .to) → to .before ≡ 1 → OfState l (λ state. Followed (nameIf (isFlying state s k) s k) from old new to)
   unfolding OfState nameIf
   name-so mid new next e g w q state rest x = rw (sym (flying state rest x) ∙ e, nameIf) (followed-one (nameText s k) from to old mid new next g w q)
 
@@ -134,21 +134,21 @@ module _ (l : List ℕ) (s k : ℕ) (b : Bool) (flying : OfState l (λ state. b 
 
 -- the texts of those of its names below a count
 unfoldable pub namesBelow : State → (s n : ℕ) → List (List ℕ)
-namesBelow state s n = map flightText (map (λ k. name s k) (keep (inFlight state s) (upTo n)))
+namesBelow state s n = map flightText (map (λ k. name s k) (keep (isFlying state s) (upTo n)))
 
-names-next : (state : State) (s n : ℕ) → namesBelow state s n ++ nameIf (inFlight state s n) s n ≡ namesBelow state s (n + 1)
+names-next : (state : State) (s n : ℕ) → namesBelow state s n ++ nameIf (isFlying state s n) s n ≡ namesBelow state s (n + 1)
 unfolding namesBelow nameIf flightText
-names-next state s n = go (inFlight state s n) refl
+names-next state s n = go (isFlying state s n) refl
   where
-    go : (b : Bool) → inFlight state s n ≡ b → namesBelow state s n ++ nameIf b s n ≡ namesBelow state s (n + 1)
+    go : (b : Bool) → isFlying state s n ≡ b → namesBelow state s n ++ nameIf b s n ≡ namesBelow state s (n + 1)
     go true e =
-        let kept = keep (inFlight state s) (upTo n) in
+        let kept = keep (isFlying state s) (upTo n) in
         sym
-        (ap (λ (ks : List ℕ). map flightText (map (λ k. name s k) ks)) (kept-next (inFlight state s) n e)
+        (ap (λ (ks : List ℕ). map flightText (map (λ k. name s k) ks)) (kept-next (isFlying state s) n e)
         ∙ ap (map flightText) (map-append (λ k. name s k) kept (n ∷ []))
         ∙ map-append flightText (map (λ k. name s k) kept) (name s n ∷ []))
     go false e =
-        append-nil (namesBelow state s n) ∙ sym (ap (λ (ks : List ℕ). map flightText (map (λ k. name s k) ks)) (kept-same (inFlight state s) n e ∙ append-nil (keep (inFlight state s) (upTo n))))
+        append-nil (namesBelow state s n) ∙ sym (ap (λ (ks : List ℕ). map flightText (map (λ k. name s k) ks)) (kept-same (isFlying state s) n e ∙ append-nil (keep (isFlying state s) (upTo n))))
 
 whole-history : (h : List Entry) (i : ℕ) → i ≡ length h → oldest i h ≡ h
 unfolding oldest
@@ -162,13 +162,13 @@ module _ (l : List ℕ) (s : ℕ) (first : Row) where
   pub names-none : (old : List ℕ) (from : ℕ) → first .to ≡ onward (from + 0) → length old < far → OfState l (λ state. Followed (namesBelow state s 0) first old old first)
   unfolding OfState namesBelow upTo
   names-none old from e short state rest x =
-      rw (keep-nil (inFlight state s)) (followed-none first first old (omega arith) refl short)
+      rw (keep-nil (isFlying state s)) (followed-none first first old (omega arith) refl short)
 
-  pub names-more : (k : ℕ) (old mid new : List ℕ) (row next : Row) → OfState l (λ state. Followed (namesBelow state s k) first old mid row) → OfState l (λ state. Followed (nameIf (inFlight state s k) s k) row mid new next)
+  pub names-more : (k : ℕ) (old mid new : List ℕ) (row next : Row) → OfState l (λ state. Followed (namesBelow state s k) first old mid row) → OfState l (λ state. Followed (nameIf (isFlying state s k) s k) row mid new next)
       → OfState l (λ state. Followed (namesBelow state s (k + 1)) first old new next)
   unfolding OfState
   names-more k old mid new row next f g state rest x =
-      rw (names-next state s k) at (followed-then (namesBelow state s k) (nameIf (inFlight state s k) s k) first row next old mid new (f state rest x) (g state rest x))
+      rw (names-next state s k) at (followed-then (namesBelow state s k) (nameIf (isFlying state s k) s k) first row next old mid new (f state rest x) (g state rest x))
 
   pub names-all : (i k end : ℕ) (old new : List ℕ) (from row : Row) → OfState l (λ state. i ≡ length (historyAt state s)) → OfState l (λ state. end ≡ sends (oldest i (historyAt state s))) → k ≡ end
       → first .to ≡ onward (from .to + 0) → first .before ≡ from .before → length old < far

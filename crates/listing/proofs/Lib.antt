@@ -1,5 +1,4 @@
 -- What is written is the listing of the state.
 pub mod ProcessLaws
 pub mod FlightLaws
-pub mod Lengths
 pub mod ListingLaws

@@ -22,8 +22,8 @@ use Rattle.text.proofs.WritingLaws.{wrote-then, wrote-length, wrote-fits, measu
 use Rattle.reading.specs.Reads.{OfState}
 use Rattle.listing.specs.Listed.{placesText, flyingLine}
 use Rattle.calls.proofs.Answering.{without-state, with-state}
+use Rattle.calls.proofs.ListingRoom.{listing-most}
 use Rattle.reading.proofs.Holding.{at-image}
-use Rattle.listing.proofs.Lengths.{listing-most}
 
 pub whole-listing : (l : List ℕ) (count b b′ e : ℕ) (old mid mid′ new : List ℕ) → OfState l (λ s. count ≡ length (keep (inPool s) (upTo (s .sizes .places)))) → Wrote (processesLine count) 0 old mid b
     → OfState l (λ s. Wrote (placesText s (s .sizes .places)) b mid mid′ b′) → OfState l (λ s. Wrote (flyingLine s) b′ mid′ new e) → OfState l (λ s. Wrote (listing s) 0 old new e)

@@ -15,7 +15,7 @@ use Rattle.lists.proofs.Lists.{keep-nil, keep-true, keep-false, keep-append}
 use Rattle.lists.proofs.All.{maps-after, map-agree, all-so}
 use Rattle.rules.specs.State.{Message, Kind, seq, send, rec, spawn, self, check, Entry, Process, State, historyOf, historyAt, entryAt, inPool}
 use Rattle.rules.specs.Listing.{kindName, newestName, messageText, processLines}
-use Rattle.rules.proofs.Frame.{process-of, no-process}
+use Rattle.demands.proofs.Frame.{process-of, no-process}
 use Rattle.store.specs.Layout.{kindNumber, nameWord}
 use Rattle.store.proofs.SoundStates.{storable}
 use Rattle.store.proofs.Restoring.{Kept}

@@ -1,4 +1,4 @@
--- What the parts of the listing's code promise. Assumes nothing: these are definitions.
+-- What the parts of the listing's code promise.
 use Prim.Native.Nat.{ℕ}
 use mathlib.Core.Path.{_≡_}
 use mathlib.Core.Bool.{Bool, true, false}

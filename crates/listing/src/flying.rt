@@ -6,7 +6,7 @@ use reading::mail::sends_before;
 use reading::mail::target;
 use reading::state::entry_count;
 use reading::state::places;
-use store::layout::NAME_BASE;
+use rows::words::NAME_BASE;
 use text::keys::FLIGHT;
 use text::writing::past;
 use text::writing::write_bytes;
@@ -15,7 +15,7 @@ use text::writing::write_line_feed;
 use text::writing::write_name;
 ghost use mathlib.Core.Path.{_≡_};
 ghost use mathlib.Core.List.{map};
-ghost use Rattle.rules.specs.Flight.{inFlight, flightOf};
+ghost use Rattle.rules.specs.Flight.{isFlying, flightOf};
 ghost use Rattle.rules.specs.Listing.{flightText};
 ghost use Rattle.store.specs.Image.{IsImage};
 ghost use Rattle.text.specs.Written.{Wrote};
@@ -31,7 +31,7 @@ pub struct Row {
 // Whether message s.k is in flight.
 pub fn in_flight(store: &[u32], s: usize, k: u32) -> bool
     requires { ⌜ IsImage (now store) × OfState (now store) (IsPlace s) ⌝ }
-    ensures { λ r. ⌜ OfState (now (store .entry)) (λ state. r ≡ inFlight state s k) ⌝ }
+    ensures { λ r. ⌜ OfState (now (store .entry)) (λ state. r ≡ isFlying state s k) ⌝ }
 {
     let Found::At(i) = find_send(store, s, k) else {
         return false;
@@ -44,7 +44,7 @@ pub fn in_flight(store: &[u32], s: usize, k: u32) -> bool
 // The name of s.k, where it is in flight.
 fn write_flying(store: &[u32], out: &mut [u8], row: Row, s: usize, k: u32) -> Row
     requires { ⌜ IsImage (now store) × OfState (now store) (IsPlace s) ⌝ }
-    ensures { λ r. ⌜ OfState (now (store .entry)) (λ state. Followed (nameIf (inFlight state s k) s k) row (now (out .entry)) (now (out .exit)) r) ⌝ }
+    ensures { λ r. ⌜ OfState (now (store .entry)) (λ state. Followed (nameIf (isFlying state s k) s k) row (now (out .entry)) (now (out .exit)) r) ⌝ }
 {
     let at = row.to;
     let before = row.before;

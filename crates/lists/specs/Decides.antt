@@ -1,4 +1,4 @@
--- Tests that decide a property. Assumes nothing: these are definitions.
+-- Tests that decide a property.
 use mathlib.Core.Path.{_≡_}
 use mathlib.Core.Bool.{Bool, true}
 

@@ -1,4 +1,4 @@
--- Lists filled up to a length. Assumes nothing: these are definitions.
+-- Lists filled up to a length.
 use Prim.Native.Nat.{ℕ, zero, suc}
 use mathlib.Core.List.{List, [], _∷_}
 

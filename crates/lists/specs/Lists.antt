@@ -1,4 +1,4 @@
--- Lists: what the definitions of the other crates share. Assumes nothing: these are definitions.
+-- Lists: what the definitions of the other crates share.
 use Prim.Native.Nat.{ℕ, zero, suc}
 use mathlib.Core.Bool.{Bool, true, false, _&&_, _||_}
 use mathlib.Core.List.{List, [], _∷_, _++_}

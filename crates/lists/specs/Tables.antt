@@ -1,4 +1,4 @@
--- Tables: a value for every place, changed at one place. Assumes nothing: these are definitions.
+-- Tables: a value for every place, changed at one place.
 use Prim.Native.Nat.{ℕ}
 use mathlib.Core.Bool.{cond}
 use lib.Dec.{eqb}

@@ -1,4 +1,4 @@
--- Binding. 01: "Binding puts the value in place of the variable." Assumes nothing: these are definitions.
+-- Binding. 01: "Binding puts the value in place of the variable."
 use Prim.Native.Nat.{ℕ, suc}
 use mathlib.Core.Bool.{true, false}
 use mathlib.Core.Option.{none, some}

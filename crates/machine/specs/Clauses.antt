@@ -1,4 +1,4 @@
--- Clauses. 01: "the first clause whose pattern matches and whose guard gives atom 0". Assumes nothing: these are definitions.
+-- Clauses. 01: "the first clause whose pattern matches and whose guard gives atom 0".
 use mathlib.Core.Bool.{true, false}
 use mathlib.Core.Option.{Option, none, some}
 use Rattle.term.specs.Tree.{Term, Terms, int, node, end, _then_}

@@ -1,4 +1,4 @@
--- Guards, whose variables have their values already. Assumes nothing: these are definitions.
+-- Guards, whose variables have their values already.
 use Prim.Native.Nat.{ℕ}
 use mathlib.Core.Bool.{Bool, true, false}
 use mathlib.Core.Option.{Option, none, some}

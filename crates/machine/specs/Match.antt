@@ -1,4 +1,4 @@
--- Matching a pattern against a value, and the values that its variables take. Assumes nothing: these are definitions.
+-- Matching a pattern against a value, and the values that its variables take.
 use Prim.Native.Nat.{ℕ}
 use mathlib.Core.Bool.{Bool, true, false, cond, _&&_}
 use mathlib.Core.Option.{Option, none, some}

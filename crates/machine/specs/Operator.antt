@@ -1,4 +1,4 @@
--- The operators 0..8: + - * div rem =:= =/= < =<. Assumes nothing: these are definitions.
+-- The operators 0..8: + - * div rem =:= =/= < =<.
 use Prim.Native.Nat.{ℕ, suc, _-_}
 use mathlib.Core.Bool.{Bool, false, cond, not, _&&_}
 use mathlib.Core.Option.{Option, none, some}

@@ -1,5 +1,5 @@
 -- The working place. 01: "The leftmost part not yet a value is worked on first: starting from the whole, go into the leftmost non-value
--- child, and work on the term that has none. Clauses and a let's body wait and aren't gone into." Assumes nothing: these are definitions.
+-- child, and work on the term that has none. Clauses and a let's body wait and aren't gone into."
 use Prim.Native.Nat.{ℕ, zero, suc}
 use mathlib.Core.Bool.{Bool, true, false, cond, _||_}
 use lib.Dec.{eqb}

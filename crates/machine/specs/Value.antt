@@ -1,4 +1,4 @@
--- Values, and when two of them are equal. Assumes nothing: these are definitions.
+-- Values, and when two of them are equal.
 use Prim.Native.Nat.{ℕ}
 use mathlib.Core.Bool.{Bool, true, false, cond, _&&_}
 use lib.Dec.{eqb}

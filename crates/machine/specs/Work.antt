@@ -1,4 +1,4 @@
--- What a control is about to do, and what it becomes, on rows of words. Assumes nothing: these are definitions.
+-- What a control is about to do, and what it becomes, on rows of words.
 use Prim.Native.Nat.{ℕ}
 use mathlib.Core.Bool.{true, false, cond}
 use mathlib.Core.Option.{Option, none, some}
@@ -15,8 +15,8 @@ use Rattle.machine.specs.Bind.{bind, parameters}
 use Rattle.machine.specs.Clauses.{firstClause}
 use Rattle.machine.specs.Place.{working, replaced}
 
--- A row of words is a control or a value. A receive says what it makes of a message's value; a spawn and a self what they become with
--- a place's pid; a spawn the first control of its child too.
+-- `next` is the next control. A receive says what it makes of a message's value; a spawn and a self what they become with a place's pid; a
+-- spawn the first control of its child too.
 pub data Work : Type 0 where
   finished stuck : Work
   toSeq : (next : List ℕ) → Work

@@ -12,7 +12,7 @@ use Rattle.lists.specs.Lists.{any, upTo}
 use Rattle.lists.proofs.Tests.{some-injective, true-not-false, eqb-of, eqb-apart}
 use Rattle.rules.specs.State.{Letter, letter, asSend, Entry, State, historyAt, entryAt, inPool}
 use Rattle.rules.specs.Flight.{countLetter, sends, sent, hasCome, flies, fliesTo, awaited}
-use Rattle.rules.proofs.Histories.{sent-below}
+use Rattle.demands.proofs.Histories.{sent-below}
 use Rattle.store.specs.Image.{IsImage}
 use Rattle.store.specs.Layout.{nameBase}
 use Rattle.store.proofs.SoundStates.{sizes-in}

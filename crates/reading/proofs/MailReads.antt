@@ -15,7 +15,7 @@ use Rattle.lists.proofs.Tests.{true-not-false, eqb-of, eqb-apart, or-left, or-r
 use Rattle.rules.specs.State.{Message, Letter, letter, Taking, taking, asSend, asRec, Entry, State, historyAt, entryAt, isNamed}
 use Rattle.rules.specs.Flight.{countLetter, sends, sent, alsoTaken, taken, hasCome}
 use Rattle.rules.specs.Depends.{queueBefore}
-use Rattle.rules.proofs.Messages.{Any, here, there, Is, all-at}
+use Rattle.demands.proofs.Messages.{Any, here, there, Is, all-at}
 use Rattle.store.specs.Image.{IsImage}
 use Rattle.store.specs.Layout.{kindSend, kindRec, nameWord, kindNumber, numberIn}
 use Rattle.store.proofs.Histories.{sends-few}

@@ -15,7 +15,7 @@ use Rattle.lists.proofs.All.{all-so, all-left, all-right}
 use Rattle.rules.specs.State.{Message, State, historyAt, isNamed}
 use Rattle.rules.specs.Flight.{taken}
 use Rattle.rules.specs.Sound.{SentTo, Sound}
-use Rattle.rules.proofs.Messages.{is-named, named-is}
+use Rattle.demands.proofs.Messages.{is-named, named-is}
 use Rattle.store.specs.Layout.{nameBase, nameWord}
 use Rattle.store.proofs.SoundStates.{sizes-in, numbered}
 

@@ -13,8 +13,8 @@ use Rattle.lists.proofs.Tests.{eqb-of, eqb-apart, cond-true, cond-false, or-lef
 use Rattle.lists.proofs.Lists.{any-append}
 use Rattle.rules.specs.State.{Message, Letter, taking, Kind, seq, send, rec, spawn, self, check, asSend, asRec, Entry, entryAt}
 use Rattle.rules.specs.Flight.{sends, sent, taken}
-use Rattle.rules.proofs.Histories.{Suffix, whole, older, suffix-length, entry-suffix, suffix-sent, sent-below, suffix-taken}
-use Rattle.rules.proofs.Messages.{Any, Is}
+use Rattle.demands.proofs.Histories.{Suffix, whole, older, suffix-length, entry-suffix, suffix-sent, sent-below, suffix-taken}
+use Rattle.demands.proofs.Messages.{Any, Is}
 use Rattle.store.specs.Layout.{kindSend, kindRec, kindNumber}
 use Rattle.reading.specs.Reads.{oldest}
 

@@ -14,7 +14,7 @@ use Rattle.lists.proofs.Tests.{none-not-some, some-injective, true-or-false, lt
 use Rattle.lists.proofs.All.{all-getD}
 use Rattle.rules.specs.State.{Message, Entry, Process, State, historyOf, historyAt, entryAt, isProcess, inPool}
 use Rattle.rules.specs.Sound.{Sound}
-use Rattle.rules.proofs.Histories.{entry-suffix, suffix-length}
+use Rattle.demands.proofs.Histories.{entry-suffix, suffix-length}
 use Rattle.store.specs.Layout.{slotHead, slotSize, kindFree, kindLive, Slot, freeSlot, slotWords, nameWord, entrySlot, placeSlots, slotsAt}
 use Rattle.store.proofs.Lengths.{length-slot}
 use Rattle.store.proofs.Reading.{FitsSlot, Used}

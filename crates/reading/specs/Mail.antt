@@ -1,4 +1,4 @@
--- Messages in flight, entry by entry. Assumes nothing: these are definitions.
+-- Messages in flight, entry by entry.
 use Prim.Native.Nat.{ℕ}
 use mathlib.Core.Bool.{Bool, false}
 use mathlib.Core.Option.{Option, none, some}

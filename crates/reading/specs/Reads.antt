@@ -1,4 +1,4 @@
--- What is read of a store, said of the state that it holds. Assumes nothing: these are definitions.
+-- What is read of a store, said of the state that it holds.
 use Prim.Native.Nat.{ℕ, _<_, _-_}
 use mathlib.Core.Path.{_≡_}
 use mathlib.Core.Bool.{true}

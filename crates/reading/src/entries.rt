@@ -3,6 +3,8 @@ use crate::slots::slot;
 use crate::slots::slot_control;
 use crate::slots::slot_names;
 use crate::state::most_words;
+use store::layout::SLOT_KIND;
+use store::layout::SLOT_NUMBER;
 ghost use mathlib.Core.Path.{_≡_};
 ghost use mathlib.Core.List.{map};
 ghost use Rattle.rules.specs.State.{asRec};
@@ -16,7 +18,7 @@ pub fn kind(store: &[u32], p: usize, i: usize) -> u32
     requires { ⌜ IsImage (now store) × OfState (now store) (IsEntry p i) ⌝ }
     ensures { λ r. ⌜ OfState (now (store .entry)) (OfEntry p i (λ e. r ≡ kindNumber (e .kind))) ⌝ }
 {
-    slot(store, p, i + 1)[0]
+    slot(store, p, i + 1)[SLOT_KIND]
 }
 
 // The number that goes with it: the place of a rec's message in the queue before, a spawn's child, a check's number.
@@ -24,7 +26,7 @@ pub fn number(store: &[u32], p: usize, i: usize) -> u32
     requires { ⌜ IsImage (now store) × OfState (now store) (IsEntry p i) ⌝ }
     ensures { λ r. ⌜ OfState (now (store .entry)) (OfEntry p i (λ e. r ≡ numberIn (e .kind))) ⌝ }
 {
-    slot(store, p, i + 1)[2]
+    slot(store, p, i + 1)[SLOT_NUMBER]
 }
 
 // The control before.

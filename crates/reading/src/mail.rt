@@ -7,10 +7,10 @@ use crate::found::Found;
 use crate::state::entry_count;
 use crate::state::places;
 use crate::state::queue;
+use rows::words::NAME_BASE;
 use step::control::sent;
 use step::work::Doing;
 use step::work::about_to;
-use store::layout::NAME_BASE;
 use store::layout::REC;
 use store::layout::SEND;
 ghost use mathlib.Core.Path.{_≡_};
@@ -25,6 +25,9 @@ ghost use Rattle.store.specs.Layout.{nameBase};
 ghost use Rattle.reading.specs.Mail.{fliesBy};
 ghost use Rattle.reading.specs.Reads.{OfState, IsPlace, IsEntry, OfEntry, IsSend, OfSend, oldest, SendFound};
 
+// What `target` gives where no send is: never, since it is asked of sends alone.
+const NO_TARGET: u32 = 0;
+
 // The place that entry i of p, a send, sent to.
 pub fn target(store: &[u32], p: usize, i: usize) -> u32
     requires { ⌜ IsImage (now store) × OfState (now store) (IsSend p i) ⌝ }
@@ -32,7 +35,7 @@ pub fn target(store: &[u32], p: usize, i: usize) -> u32
 {
     let doing = about_to(before(store, p, i));
     let Doing::Send(t) = doing else {
-        return 0;
+        return NO_TARGET;
     };
     t
 }

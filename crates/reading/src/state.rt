@@ -4,7 +4,12 @@ use crate::slots::slot_control;
 use crate::slots::slot_names;
 use store::layout::FREE;
 use store::layout::HEAD;
+use store::layout::HEAD_ENTRIES;
+use store::layout::HEAD_MODULE;
+use store::layout::HEAD_PLACES;
+use store::layout::HEAD_WORDS;
 use store::layout::LIVE;
+use store::layout::SLOT_KIND;
 ghost use mathlib.Core.Path.{_≡_};
 ghost use mathlib.Core.List.{map};
 ghost use lib.ListN.{length};
@@ -18,21 +23,21 @@ pub fn places(store: &[u32]) -> usize
     requires { ⌜ IsImage (now store) ⌝ }
     ensures { λ r. ⌜ OfState (now (store .entry)) (λ s. r ≡ s .sizes .places) ⌝ }
 {
-    store[0] as usize
+    store[HEAD_PLACES] as usize
 }
 
 pub fn most_entries(store: &[u32]) -> usize
     requires { ⌜ IsImage (now store) ⌝ }
     ensures { λ r. ⌜ OfState (now (store .entry)) (λ s. r ≡ s .sizes .entries) ⌝ }
 {
-    store[1] as usize
+    store[HEAD_ENTRIES] as usize
 }
 
 pub fn most_words(store: &[u32]) -> usize
     requires { ⌜ IsImage (now store) ⌝ }
     ensures { λ r. ⌜ OfState (now (store .entry)) (λ s. r ≡ s .sizes .words) ⌝ }
 {
-    store[2] as usize
+    store[HEAD_WORDS] as usize
 }
 
 // The module's words.
@@ -40,7 +45,7 @@ pub fn program<'a>(store: &'a [u32]) -> &'a [u32]
     requires { ⌜ IsImage (now store) ⌝ }
     ensures { λ r. ⌜ OfState (now (store .entry)) (λ s. now r ≡ s .module′) ⌝ }
 {
-    &store[HEAD..HEAD + store[3] as usize]
+    &store[HEAD..HEAD + store[HEAD_MODULE] as usize]
 }
 
 // Whether a place is in the pool.
@@ -48,10 +53,10 @@ pub fn in_pool(store: &[u32], p: u32) -> bool
     requires { ⌜ IsImage (now store) ⌝ }
     ensures { λ r. ⌜ OfState (now (store .entry)) (λ s. r ≡ inPool s p) ⌝ }
 {
-    if store[0] <= p {
+    if store[HEAD_PLACES] <= p {
         return false;
     }
-    slot(store, p as usize, 0)[0] == LIVE
+    slot(store, p as usize, 0)[SLOT_KIND] == LIVE
 }
 
 // The control of the process at p; empty where none is.
@@ -78,7 +83,7 @@ pub fn entry_count(store: &[u32], p: usize) -> usize
     let most = most_entries(store);
     let mut i = 0;
     while i < most {
-        if slot(store, p, i + 1)[0] == FREE {
+        if slot(store, p, i + 1)[SLOT_KIND] == FREE {
             return i;
         }
         i += 1;

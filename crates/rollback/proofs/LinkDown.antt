@@ -1,15 +1,12 @@
 -- Undoing in a store: each turn leaves the image of a state with one event less, and where it ends that is the rollback's.
 use Prim.Native.Nat.{ℕ, suc, _-_, _/_, _%_, _<_}
 use mathlib.Core.Path.{_≡_, refl, sym, _∙_, ap, subst, subst₂, fun-ext}
-use mathlib.Core.Logic.{_≢_}
 use mathlib.Core.Bool.{Bool, true, false}
 use mathlib.Core.Option.{Option, none, some}
 use mathlib.Core.List.{List, [], _∷_, _++_}
 use native.Mathlib.Omega.{arith}
 use native.Mathlib.Decide.{decLt}
 use lib.Dec.{ltb}
-use denote.Enum.Declared.{tagOf}
-use types.Run.{OneOf, miss}
 use lib.ListN.{length, getD, set}
 use Rattle.lists.specs.Lists.{butLast}
 use Rattle.lists.proofs.Tests.{none-not-some, some-injective}
@@ -18,34 +15,34 @@ use Rattle.rules.specs.State.{Message, Process, State}
 use Rattle.rules.specs.Flight.{left}
 use Rattle.rules.specs.Sound.{Sound}
 use Rattle.rules.specs.Commands.{back, undeliver, undelivers, post, accept, need, atProcess, undelivering, afterPlan, apply, run, runState}
-use Rattle.rules.specs.Depends.{Line, entriesOf, deliveriesTo, level, happened}
-use Rattle.rules.specs.Rollback.{cutTo, event, cutBefore, undoOf, RolledBack, rolled, undoTo, endOf}
-use Rattle.rules.proofs.Event.{line?, Down}
-use Rattle.rules.proofs.Removal.{undone-of, lower, back-under, sound-back}
-use Rattle.rules.proofs.Cut.{cut-at, cut-off}
-use Rattle.rules.proofs.SearchNumbers.{Can, can-accepted}
-use Rattle.rules.proofs.SearchLoop.{Writing, write-start, write-take, write-on, write-done}
+use Rattle.rules.specs.Depends.{Series, entriesOf, deliveriesTo, level, happened, event}
+use Rattle.rules.specs.Rollback.{cutTo, cutBefore, undoOf, RolledBack, rolled, undoTo, rolledState}
+use Rattle.demands.proofs.Event.{line?, Down}
+use Rattle.demands.proofs.Removal.{undone-of, lower, back-under, sound-back}
+use Rattle.demands.proofs.Cut.{cut-at, cut-off}
+use Rattle.demands.proofs.SearchNumbers.{Can, can-accepted}
+use Rattle.demands.proofs.SearchLoop.{Writing, write-start, write-take, write-on, write-done}
 use Rattle.store.specs.Layout.{image}
 use Rattle.store.specs.Image.{IsImage}
 use Rattle.store.proofs.Laws.{image-laws}
-use Rattle.calls.specs.declared.answers.Answer.{Answer}
-use Rattle.calls.proofs.answers.Answer.{the-type}
 use Rattle.calls.specs.declared.answers.Answer.the-variants.{Done, Held}
 use Rattle.reading.specs.Reads.{Holds, OfState}
-use Rattle.reading.specs.declared.found.Found.the-variants.{Nowhere, At}
+use Rattle.cuts.specs.declared.found.Found.the-variants.{Nowhere, At}
+use Rattle.cuts.specs.declared.search.Descent.the-variants as Descent
 use Rattle.writing.specs.Writes.{Leads, Undoes, Unposts, CanUndo, CanTake}
-use Rattle.rollback.specs.Bounds.{lineCount}
-use Rattle.rollback.specs.Links.{lineNumber, cutIn}
-use Rattle.rollback.specs.Going.{Free, FindsFree, Ready, Reaches, Tells, tells-done, tells-held, Seeks, CanUndoLine, UndoesLine, OfWords, Leaves, TakesBack}
-use Rattle.rollback.proofs.Lines.{line-of, same-line, cut-set}
-use Rattle.rollback.proofs.LinkSearch.{levels-same, free-top, free-over, free-line, none-free}
+use Rattle.cuts.specs.Bounds.{lineCount}
+use Rattle.cuts.specs.Links.{lineNumber, cutIn}
+use Rattle.cuts.specs.Going.{Free, FindsFree, Ready, Foretells, foretells-done, foretells-held, Seeks}
+use Rattle.rollback.specs.Undone.{Reaches, Tells, tells-done, tells-held, CanUndoLine, UndoesLine, OfWords, Leaves, TakesBack}
+use Rattle.cuts.proofs.Lines.{line-of, same-line, cut-set}
+use Rattle.cuts.proofs.LinkSearch.{levels-same, free-top, free-over, free-line, none-free}
 
 -- ---- one line
-pub even-line : (y : Line) (x : ℕ) → lineNumber y ≡ x → x % 2 ≡ 0 → y ≡ entriesOf (x / 2)
+pub even-line : (y : Series) (x : ℕ) → lineNumber y ≡ x → x % 2 ≡ 0 → y ≡ entriesOf (x / 2)
 even-line (entriesOf p) x e h = ap entriesOf (omega (arith, e, h))
 even-line (deliveriesTo q) x e h = absurd (omega (arith, e, h))
 
-pub odd-line : (y : Line) (x : ℕ) → lineNumber y ≡ x → ¬ (x % 2 ≡ 0) → y ≡ deliveriesTo (x / 2)
+pub odd-line : (y : Series) (x : ℕ) → lineNumber y ≡ x → ¬ (x % 2 ≡ 0) → y ≡ deliveriesTo (x / 2)
 odd-line (entriesOf p) x e h = absurd (h (omega (arith, e)))
 odd-line (deliveriesTo q) x e h = ap deliveriesTo (omega (arith, e))
 
@@ -90,7 +87,7 @@ module _ (store exit : List ℕ) (x : ℕ) where
   odd-leads h leads s s′ rest holds f = leads s s′ rest holds (undelivered s (x / 2) (f (deliveriesTo (x / 2)) (odd-number x h)) .1)
 
 -- ---- where the loop stands
-pub record Standing {s : State} (sound : Sound s) (x : Line) (i : ℕ) (happens : happened s x i ≡ true) (rest store lv : List ℕ) : Type 0 where
+pub record Standing {s : State} (sound : Sound s) (x : Series) (i : ℕ) (happens : happened s (event x i) ≡ true) (rest store lv : List ℕ) : Type 0 where
   pub state : State
   pub done : ℕ
   pub writing : Writing sound x i happens state done
@@ -102,7 +99,7 @@ Undoing before links many cut levels store lv =
     (s : State) (rest : List ℕ) (holds : Holds before s rest) (r : Ready s links many cut levels) → Standing (holds .sound) (r .line) (r .index) (r .happens) rest store lv
 
 -- the undo of a line lowers its level by one
-level-down : {s m : State} (y : Line) {c : ℕ} → Sound s → runState (undoOf y) s ≡ some m → level s y ≡ suc c → level m ≡ cutTo y c (level s)
+level-down : {s m : State} (y : Series) {c : ℕ} → Sound s → runState (undoOf y) s ≡ some m → level s y ≡ suc c → level m ≡ cutTo y c (level s)
 level-down {s} {m} y {c} sound e top =
     let u = undone-of y sound e in
     let d : Down s m y = subst₂ (λ z t. Down s t z) (u .on) (u .gives) (lower sound (u .does) (u .undoes-it)) in
@@ -132,7 +129,7 @@ module _ (before links : List ℕ) (many : ℕ) (cut levels : List ℕ) where
     undoing-image = record { state = standing-one .state; rest = is-image .rest; sound = sound-back (holds-one .sound) (standing-one .writing .run); words = standing-one .words }
 
     module _ (x : ℕ) (f : Free links many cut lv x) where
-      accepted : {s : State} (sound : Sound s) (r : Ready s links many cut levels) {rest : List ℕ} (st : Standing sound (r .line) (r .index) (r .happens) rest store lv) (y : Line) → lineNumber y ≡ x
+      accepted : {s : State} (sound : Sound s) (r : Ready s links many cut levels) {rest : List ℕ} (st : Standing sound (r .line) (r .index) (r .happens) rest store lv) (y : Series) → lineNumber y ≡ x
           → (m : State) × (runState (undoOf y) (st .state) ≡ some m)
       accepted {s} sound r st y e =
           let back-run = st .writing .run in
@@ -154,7 +151,7 @@ module _ (before links : List ℕ) (many : ℕ) (cut levels : List ℕ) where
           let sound = holds .sound in
           let st-sound = sound-back sound (st .writing .run) in
           let (m, a) = accepted sound r st y e in
-          let at : (z : Line) → level (st .state) z ≡ cutIn lv z = λ z. ap (λ k. k z) (st .levels) in
+          let at : (z : Series) → level (st .state) z ≡ cutIn lv z = λ z. ap (λ k. k z) (st .levels) in
           record {
             state = m;
             done = suc (st .done);
@@ -173,50 +170,51 @@ module _ (before links : List ℕ) (many : ℕ) (cut levels : List ℕ) where
 
     -- no line above the cut can be undone: the cut is reached
     pub undoing-done : length lv ≡ lineCount → FindsFree links many cut lv Nowhere → OfState before (λ s. Reaches s (cutIn cut)) → OfWords before (λ s rest. Leaves s (cutIn cut) rest store)
-    unfolding OfWords OfState Undoing endOf
+    unfolding OfWords OfState Undoing rolledState
     undoing-done long nowhere reaches s rest holds =
         let r = ready s rest holds in
         let st = undoing s rest holds r in
         let sound = holds .sound in
         let known = reaches s rest holds in
         let known-at : undoTo s (cutBefore s (event (r .line) (r .index))) ≡ rolled (known .count) (known .end) = ap (undoTo s) (sym (r .cut-is)) ∙ known .known in
-        let at : (z : Line) → level (st .state) z ≡ cutIn lv z = λ z. ap (λ k. k z) (st .levels) in
-        let cut-at-line : (z : Line) → cutIn cut z ≡ cutBefore s (event (r .line) (r .index)) z = λ z. ap (λ k. k z) (r .cut-is) in
-        let there : (y : Line) → level (st .state) y ≡ cutBefore s (event (r .line) (r .index)) y = λ y. elim (decLt (cutBefore s (event (r .line) (r .index)) y) (level (st .state) y)) [
+        let at : (z : Series) → level (st .state) z ≡ cutIn lv z = λ z. ap (λ k. k z) (st .levels) in
+        let cut-at-line : (z : Series) → cutIn cut z ≡ cutBefore s (event (r .line) (r .index)) z = λ z. ap (λ k. k z) (r .cut-is) in
+        let there : (y : Series) → level (st .state) y ≡ cutBefore s (event (r .line) (r .index)) y = λ y. elim (decLt (cutBefore s (event (r .line) (r .index)) y) (level (st .state) y)) [
           | no h ↦ omega (arith, h, st .writing .above y)
           | yes h ↦ absurd (
               let (z, m, above, a) = write-on sound (r .line) (r .index) (r .happens) known-at y (st .writing) h in
               none-free cut lv (r .linked) long nowhere z (omega (arith, above, at z, cut-at-line z)) (subst (λ k. Can s k z) (st .levels) (can-accepted z sound (st .writing .run) .1 (m, a))))
         ] in
         let same : st .state ≡ known .end = write-done sound (r .line) (r .index) (r .happens) known-at (st .writing) there .0 in
-        record { leaves = st .words ∙ ap (λ z. image z ++ rest) (same ∙ sym (ap (endOf s) (known .known))) }
+        record { leaves = st .words ∙ ap (λ z. image z ++ rest) (same ∙ sym (ap (rolledState s) (known .known))) }
+
+pub ready-long : (store links : List ℕ) (many : ℕ) (cut levels : List ℕ) → IsImage store → OfState store (λ s. Ready s links many cut levels) → length levels ≡ lineCount
+unfolding OfState
+ready-long store links many cut levels is-image ready = ready (is-image .state) (is-image .rest) (record { sound = is-image .sound; words = is-image .words }) .levels-are .long
 
 -- ---- the answer
-abbrev others : List ℕ
-others = 1 ∷ 2 ∷ 3 ∷ 4 ∷ 5 ∷ 6 ∷ 7 ∷ 8 ∷ 9 ∷ 10 ∷ 11 ∷ 12 ∷ 13 ∷ 14 ∷ 15 ∷ []
-
-not-done : (r : Answer) → OneOf others (tagOf the-type r) → (n : ℕ) → r ≢ Done n
-not-done r k n e = absurd (miss others 0 tt (subst (λ (a : Answer). OneOf others (tagOf the-type a)) e k))
-
 module _ (before links : List ℕ) (many : ℕ) (cut levels : List ℕ) (ready : OfState before (λ s. Ready s links many cut levels)) where
-  reaches-of : {back : RolledBack} {n : ℕ} → Tells back (Done n) → (end : State) × (back ≡ rolled n end)
-  reaches-of (tells-done n end) = (end, refl)
+  reaches-of : {back : RolledBack} {n : ℕ} → Foretells back (Descent.Reaches n) → (end : State) × (back ≡ rolled n end)
+  reaches-of (foretells-done n end) = (end, refl)
 
-  held-of : {back : RolledBack} {r : Answer} → Tells back r → ((n : ℕ) → r ≢ Done n) → Tells back Held × ((s : State) → endOf s back ≡ s)
-  unfolding endOf
-  held-of (tells-done n end) f = absurd (f n refl)
-  held-of tells-held f = (tells-held, λ s. refl)
+  held-of : {back : RolledBack} → Foretells back Descent.Stops → Tells back Held × ((s : State) → rolledState s back ≡ s)
+  unfolding rolledState
+  held-of foretells-held = (tells-held, λ s. refl)
 
-  pub seek-reaches : (n : ℕ) → Seeks links many cut levels (Done n) → OfState before (λ s. Reaches s (cutIn cut))
+  done-of : {back : RolledBack} {n : ℕ} → Foretells back (Descent.Reaches n) → Tells back (Done n)
+  done-of (foretells-done n end) = tells-done n end
+
+  pub seek-reaches : (n : ℕ) → Seeks links many cut levels (Descent.Reaches n) → OfState before (λ s. Reaches s (cutIn cut))
   unfolding Seeks OfState
   seek-reaches n seeks s rest holds = let (end, e) = reaches-of (seeks s (holds .sound) (ready s rest holds)) in record { count = n; end = end; known = e }
 
-  pub seek-holds : (r : Answer) → Seeks links many cut levels r → OneOf others (tagOf the-type r) → OfWords before (λ s rest. TakesBack s rest before (undoTo s (cutIn cut)) Held)
+  pub seek-holds : Seeks links many cut levels Descent.Stops → OfWords before (λ s rest. TakesBack s rest before (undoTo s (cutIn cut)) Held)
   unfolding Seeks OfState OfWords
-  seek-holds r seeks k s rest holds =
-      let (tells, same) = held-of (seeks s (holds .sound) (ready s rest holds)) (not-done r k) in
+  seek-holds seeks s rest holds =
+      let (tells, same) = held-of (seeks s (holds .sound) (ready s rest holds)) in
       record { tells = tells; leaves = holds .words ∙ ap (λ z. image z ++ rest) (sym (same s)) }
 
-  pub seek-leaves : (exit : List ℕ) (n : ℕ) → Seeks links many cut levels (Done n) → OfWords before (λ s rest. Leaves s (cutIn cut) rest exit) → OfWords before (λ s rest. TakesBack s rest exit (undoTo s (cutIn cut)) (Done n))
+  pub seek-leaves : (exit : List ℕ) (n : ℕ) → Seeks links many cut levels (Descent.Reaches n) → OfWords before (λ s rest. Leaves s (cutIn cut) rest exit)
+      → OfWords before (λ s rest. TakesBack s rest exit (undoTo s (cutIn cut)) (Done n))
   unfolding Seeks OfState OfWords
-  seek-leaves exit n seeks leaves s rest holds = record { tells = seeks s (holds .sound) (ready s rest holds); leaves = leaves s rest holds .leaves }
+  seek-leaves exit n seeks leaves s rest holds = record { tells = done-of (seeks s (holds .sound) (ready s rest holds)); leaves = leaves s rest holds .leaves }

@@ -13,15 +13,16 @@ use Rattle.rules.specs.State.{Kind, seq, send, rec, spawn, self, check, asSpawn
 use Rattle.rules.specs.Sound.{Sound}
 use Rattle.rules.specs.Line.{rollbackTo}
 use Rattle.rules.specs.Replies.{ofRollback, perform}
-use Rattle.rules.specs.Depends.{Line, entriesOf, deliveriesTo, level}
+use Rattle.rules.specs.Depends.{Series, entriesOf, deliveriesTo, level, event}
 use Rattle.rules.specs.Standing.{Suffix, whole, Stands}
-use Rattle.rules.specs.Rollback.{isCheck, newestCheck, cutTo, event, cutBefore, RolledBack, refused, undoTo, endOf, rollback}
-use Rattle.rules.proofs.Histories.{suffix-length, suffix-tail, suffix-entry}
-use Rattle.rules.proofs.SoundFacts.{child-lives}
-use Rattle.rules.proofs.EventDepends.{stands-low, arrives-low}
-use Rattle.rules.proofs.Removal.{in-level, level-in}
-use Rattle.rules.proofs.Cut.{placeOf, place-below}
-use Rattle.rules.proofs.Rollback.{newest-true, newest-false, newest-low, rollback-away, rollback-without, rollback-at}
+use Rattle.rules.specs.Rollback.{isCheck, newestCheck, cutTo, cutBefore, RolledBack, refused, undoTo, rolledState, rollback}
+use Rattle.demands.proofs.Histories.{suffix-length, suffix-tail, suffix-entry}
+use Rattle.demands.proofs.SoundFacts.{child-lives}
+use Rattle.demands.proofs.CutNumbers.{seen-low}
+use Rattle.demands.proofs.EventDepends.{stands-low, arrives-low}
+use Rattle.demands.proofs.Removal.{in-level, level-in}
+use Rattle.demands.proofs.Cut.{placeOf, place-below}
+use Rattle.demands.proofs.Rollback.{newest-true, newest-false, newest-low, rollback-away, rollback-without, rollback-at}
 use Rattle.store.specs.Layout.{kindNumber, numberIn, kindCheck, image}
 use Rattle.store.specs.Image.{IsImage}
 use Rattle.store.proofs.SoundStates.{sizes-in, in-places}
@@ -33,20 +34,21 @@ use Rattle.calls.specs.declared.answers.Answer.{Answer}
 use Rattle.calls.specs.declared.answers.Answer.the-variants.{NoProcess, NoCheckpoint, NotAState}
 use Rattle.reading.specs.Reads.{Holds, OfState, IsPlace, IsEntry, OfEntry}
 use Rattle.reading.specs.declared.found.Found.the-variants.{Nowhere, At}
-use Rattle.rollback.specs.Bounds.{mostPlaces, lineCount, mostEvents}
-use Rattle.rollback.specs.Links.{lineNumber, cutIn, sumOf, Levels, Ties, of-rec, of-since, of-send, of-child, of-mail, Aims, of-aim, Says, Links, LinkFits, Room}
-use Rattle.rollback.specs.Going.{Settles, Ready, Tells, tells-done, tells-held, OfWords, TakesBack, Happens, EventBack, FindsCheck}
-use Rattle.rollback.proofs.Lines.{same-line, cut-set}
+use Rattle.cuts.specs.Bounds.{mostPlaces, lineCount, mostEvents}
+use Rattle.cuts.specs.Links.{lineNumber, cutIn, sumOf, Levels, Ties, of-rec, of-since, of-send, of-child, of-mail, Aims, of-aim, Says, Tied, Links, LinkFits, Room, OnEvents}
+use Rattle.cuts.specs.Going.{Settles, Ready}
+use Rattle.rollback.specs.Undone.{Tells, tells-done, tells-held, OfWords, TakesBack, Happens, EventBack, FindsCheck}
+use Rattle.cuts.proofs.Lines.{at-line, same-line, cut-set}
 
 -- ---- the lines of links are lines of places
 module _ {s : State} (sound : Sound s) where
   few-places : s .sizes .places ≤ mostPlaces
   few-places = sizes-in (s .sizes) (sound .sizes-pass) .places-high
 
-  event-low : (x : Line) {i : ℕ} → i < level s x → lineNumber x < lineCount
+  event-low : (x : Series) {i : ℕ} → i < level s x → lineNumber x < lineCount
   event-low x h = at x (place-below sound x h)
     where
-      at : (x : Line) → placeOf x < s .sizes .places → lineNumber x < lineCount
+      at : (x : Series) → placeOf x < s .sizes .places → lineNumber x < lineCount
       at (entriesOf p) h = omega (arith, h, few-places)
       at (deliveriesTo q) h = omega (arith, h, few-places)
 
@@ -56,17 +58,17 @@ module _ {s : State} (sound : Sound s) where
   child-low : {p q i : ℕ} {e : Entry} {g : List Entry} → Stands s p i e g → asSpawn (e .kind) ≡ some q → 2 * q < lineCount
   child-low {p} {q} st is = omega (arith, in-places s sound q (child-lives sound p (st .at) is), few-places)
 
-  ties-low : {x y : Line} {a b : ℕ} → Ties s x a y b → (lineNumber x < lineCount) × (lineNumber y < lineCount)
+  ties-low : {x y : Series} {a b : ℕ} → Ties s x a y b → (lineNumber x < lineCount) × (lineNumber y < lineCount)
   ties-low (of-rec st is e) = (entry-low st, (let h = entry-low st in omega (arith, h)))
   ties-low (of-since st is) = ((let h = entry-low st in omega (arith, h)), entry-low st)
   ties-low (of-send {q} r st is c) = (event-low (deliveriesTo q) (arrives-low r), entry-low st)
   ties-low (of-child st is) = (child-low st is, entry-low st)
   ties-low (of-mail st is) = ((let h = child-low st is in omega (arith, h)), entry-low st)
 
-  aims-low : {x y : Line} {a b : ℕ} → Aims s x a y b → (lineNumber x < lineCount) × (lineNumber y < lineCount)
+  aims-low : {x y : Series} {a b : ℕ} → Aims s x a y b → (lineNumber x < lineCount) × (lineNumber y < lineCount)
   aims-low (of-aim st′ is′ st is) = (entry-low st′, entry-low st)
 
-  link-fits : {links : List ℕ} {k many : ℕ} {Of : Line → ℕ → Line → ℕ → Type 0} → ((x y : Line) (a b : ℕ) → Of x a y b → (lineNumber x < lineCount) × (lineNumber y < lineCount)) → 4 * many ≤ length links → k < many
+  link-fits : {links : List ℕ} {k many : ℕ} {Of : Series → ℕ → Series → ℕ → Type 0} → ((x y : Series) (a b : ℕ) → Of x a y b → (lineNumber x < lineCount) × (lineNumber y < lineCount)) → 4 * many ≤ length links → k < many
       → Says Of links k → LinkFits links k
   link-fits f long h says =
       let (x, y) = f (says .from) (says .on) (says .first) (says .second) (says .holds) in
@@ -75,14 +77,28 @@ module _ {s : State} (sound : Sound s) where
   pub links-room : {links : List ℕ} {few many : ℕ} → Links s links few many → Room links many
   links-room {few = few} linked = record {
     long = linked .long;
+    most = linked .most;
     each = λ k h. elim (decLt k few) [
       | yes g ↦ link-fits (λ x y a b t. ties-low t) (linked .long) h (linked .tied .each k g)
       | no g ↦ link-fits (λ x y a b t. aims-low t) (linked .long) h (linked .each k (omega (arith, g)) h)
     ];
   }
 
+  -- what a tie is on has happened
+  ties-on : {x y : Series} {a b : ℕ} → Ties s x a y b → b < level s y
+  ties-on (of-rec st is e) = omega (arith, seen-low sound st is, e)
+  ties-on (of-since st is) = stands-low st
+  ties-on (of-send r st is c) = stands-low st
+  ties-on (of-child st is) = stands-low st
+  ties-on (of-mail st is) = stands-low st
+
+  pub tied-on : {links levels : List ℕ} {few : ℕ} → Tied s links few → Levels s levels → OnEvents links few levels
+  tied-on {levels = levels} tied n = record {
+    each = λ k h. (let says = tied .each k h in omega (arith, ties-on (says .holds), says .is .on-index, at-line levels (says .on) (says .is .on-line), n .are (says .on)));
+  }
+
 pub room-fewer : {links : List ℕ} {few many : ℕ} → few ≤ many → Room links many → Room links few
-room-fewer h room = record { long = omega (arith, h, room .long); each = λ k g. room .each k (omega (arith, h, g)) }
+room-fewer h room = record { long = omega (arith, h, room .long); most = omega (arith, h, room .most); each = λ k g. room .each k (omega (arith, h, g)) }
 
 -- ---- with the numbers of the state
 module _ (store links : List ℕ) (few many : ℕ) (levels : List ℕ) (x i : ℕ) (is-image : IsImage store) (linked : OfState store (λ s. Links s links few many)) (level-numbers : OfState store (λ s. Levels s levels)) (happens : OfState store (Happens x i)) where
@@ -96,6 +112,10 @@ module _ (store links : List ℕ) (few many : ℕ) (levels : List ℕ) (x i : �
   pub event-few : Room links few
   unfolding OfState
   event-few = room-fewer (linked (is-image .state) (is-image .rest) one .fewer) event-room
+
+  pub event-on : OnEvents links few levels
+  unfolding OfState
+  event-on = tied-on (is-image .sound) (linked (is-image .state) (is-image .rest) one .tied) (level-numbers (is-image .state) (is-image .rest) one)
 
   pub event-long : length levels ≡ lineCount
   unfolding OfState
@@ -244,16 +264,16 @@ module _ (p t : ℕ) (entry : List ℕ) where
   call-without is-image pool e found =
       call-of entry NoCheckpoint is-image λ s rest holds. refused-as NoCheckpoint noCheckpoint refl refl s rest holds (rollback-without p t s (sym (pool s rest holds) ∙ e) (found s rest holds))
 
-  told : (exit : List ℕ) (r : Answer) (s : State) (rest : List ℕ) (back : RolledBack) → Tells back r → exit ≡ image (endOf s back) ++ rest → outcome (numberOf r) (valueOf r) exit ≡ stored (ofRollback s back) rest
-  unfolding stored ofRollback countIn numberOf valueOf endOf
+  told : (exit : List ℕ) (r : Answer) (s : State) (rest : List ℕ) (back : RolledBack) → Tells back r → exit ≡ image (rolledState s back) ++ rest → outcome (numberOf r) (valueOf r) exit ≡ stored (ofRollback s back) rest
+  unfolding stored ofRollback countIn numberOf valueOf rolledState
   told exit r s rest back (tells-done n end) e = λ i. outcome done n (e i)
   told exit r s rest back tells-held e = λ i. outcome held 0 (e i)
 
-  pub call-back : (i : ℕ) (exit : List ℕ) (r : Answer) {live : Bool} → IsImage entry → OfState entry (λ s. live ≡ inPool s p) → live ≡ true → OfState entry (FindsCheck p t (At i)) → OfWords entry (EventBack (2 * p) i exit r)
+  pub call-back : (i x : ℕ) (exit : List ℕ) (r : Answer) {live : Bool} → x ≡ 2 * p → IsImage entry → OfState entry (λ s. live ≡ inPool s p) → live ≡ true → OfState entry (FindsCheck p t (At i)) → OfWords entry (EventBack x i exit r)
       → RollbackCall p t entry exit r
   unfolding OfState FindsCheck OfWords EventBack Answers perform
-  call-back i exit r is-image pool e found backs = call-of exit r is-image λ s rest holds.
-      let b = backs s rest holds (entriesOf p) refl in
+  call-back i x exit r at is-image pool e found backs = call-of exit r is-image λ s rest holds.
+      let b = backs s rest holds (entriesOf p) (sym at) in
       let is = rollback-at p t s (sym (pool s rest holds) ∙ e) (found s rest holds) in
       told exit r s rest (undoTo s (cutBefore s (event (entriesOf p) i))) (b .tells) (b .leaves) ∙ sym (ap (λ b. stored (ofRollback s b) rest) is)
 
@@ -262,6 +282,6 @@ module _ (p t : ℕ) (entry : List ℕ) where
   unfolding OfState
   call-place pool e s rest holds = in-places s (holds .sound) p (sym (pool s rest holds) ∙ e)
 
-  pub call-happens : (i : ℕ) → OfState entry (FindsCheck p t (At i)) → OfState entry (Happens (2 * p) i)
+  pub call-happens : (i x : ℕ) → x ≡ 2 * p → OfState entry (FindsCheck p t (At i)) → OfState entry (Happens x i)
   unfolding OfState FindsCheck level
-  call-happens i found s rest holds = record { line = entriesOf p; numbered = refl; happens = level-in s (entriesOf p) (newest-low t (historyAt s p) (found s rest holds)) }
+  call-happens i x at found s rest holds = record { line = entriesOf p; numbered = sym at; happens = level-in s (entriesOf p) (newest-low t (historyAt s p) (found s rest holds)) }

@@ -1,5 +1,2 @@
--- The numbers that a rollback goes by, and what its parts answer.
-pub mod Bounds
-pub mod Links
-pub mod Going
-pub mod Listed
+-- What the parts of a rollback answer and leave.
+pub mod Undone

@@ -1,9 +1,13 @@
 // Undoing down to a cut, in a store.
-use crate::bounds::LINES;
-use crate::search::next_line;
-use crate::search::seek;
 use calls::answers::Answer;
-use reading::found::Found;
+use cuts::bounds::INDEX_ROOM;
+use cuts::bounds::LINES;
+use cuts::bounds::NO_LINK;
+use cuts::chains::index_links;
+use cuts::found::Found;
+use cuts::search::Descent;
+use cuts::search::next_line;
+use cuts::search::seek;
 use writing::posting::unpost;
 use writing::undoing::undo;
 ghost use Prim.Native.Nat.{_≤_};
@@ -11,9 +15,11 @@ ghost use Rattle.store.specs.Image.{IsImage};
 ghost use Rattle.reading.specs.Reads.{OfState};
 ghost use Rattle.writing.specs.Writes.{Leads};
 ghost use Rattle.rules.specs.Rollback.{undoTo};
-ghost use Rattle.rollback.specs.Bounds.{mostEvents};
-ghost use Rattle.rollback.specs.Links.{cutIn, sumOf, Room};
-ghost use Rattle.rollback.specs.Going.{CanUndoLine, UndoesLine, Ready, Reaches, OfWords, Leaves, TakesBack};
+ghost use Rattle.cuts.specs.Bounds.{mostEvents};
+ghost use Rattle.cuts.specs.Links.{cutIn, sumOf, Room};
+ghost use Rattle.cuts.specs.Chains.{Waiting};
+ghost use Rattle.cuts.specs.Going.{Ready};
+ghost use Rattle.rollback.specs.Undone.{CanUndoLine, UndoesLine, Reaches, OfWords, Leaves, TakesBack};
 
 // The newest event of a line is undone.
 fn undo_line(store: &mut [u32], x: usize)
@@ -32,15 +38,16 @@ fn undo_down(
     store: &mut [u32],
     links: &[usize],
     count: usize,
-    cut: [usize; LINES],
-    levels: [usize; LINES],
+    index: &mut [u16; INDEX_ROOM],
+    cut: &[usize; LINES],
+    levels: &[usize; LINES],
 )
-    requires { ⌜ IsImage (now store) × Room (now links) count × OfState (now store) (λ s. Ready s (now links) count cut levels) × OfState (now store) (λ s. Reaches s (cutIn cut)) ⌝ }
-    ensures { λ _. ⌜ OfWords (now (store .entry)) (λ s rest. Leaves s (cutIn cut) rest (now (store .exit))) ⌝ }
+    requires { ⌜ IsImage (now store) × Room (now links) count × Waiting (now links) count (now levels) (now index) × OfState (now store) (λ s. Ready s (now links) count (now cut) (now levels)) × OfState (now store) (λ s. Reaches s (cutIn (now cut))) ⌝ }
+    ensures { λ _. ⌜ OfWords (now (store .entry)) (λ s rest. Leaves s (cutIn (now (cut .entry))) rest (now (store .exit))) ⌝ }
 {
-    let mut level = levels;
+    let mut level = *levels;
     loop {
-        let Found::At(x) = next_line(links, count, cut, level) else {
+        let Found::At(x) = next_line(links, count, index, cut, &level) else {
             return;
         };
         undo_line(store, x);
@@ -53,15 +60,17 @@ pub fn undo_to(
     store: &mut [u32],
     links: &[usize],
     count: usize,
-    cut: [usize; LINES],
-    levels: [usize; LINES],
+    cut: &[usize; LINES],
+    levels: &[usize; LINES],
 ) -> Answer
-    requires { ⌜ IsImage (now store) × Room (now links) count × (sumOf levels ≤ mostEvents) × OfState (now store) (λ s. Ready s (now links) count cut levels) ⌝ }
-    ensures { λ r. ⌜ OfWords (now (store .entry)) (λ s rest. TakesBack s rest (now (store .exit)) (undoTo s (cutIn cut)) r) ⌝ }
+    requires { ⌜ IsImage (now store) × Room (now links) count × (sumOf (now levels) ≤ mostEvents) × OfState (now store) (λ s. Ready s (now links) count (now cut) (now levels)) ⌝ }
+    ensures { λ r. ⌜ OfWords (now (store .entry)) (λ s rest. TakesBack s rest (now (store .exit)) (undoTo s (cutIn (now (cut .entry)))) r) ⌝ }
 {
-    let Answer::Done(n) = seek(links, count, cut, levels) else {
+    let Descent::Reaches(n) = seek(links, count, cut, levels) else {
         return Answer::Held;
     };
-    undo_down(store, links, count, cut, levels);
+    let mut index = [NO_LINK; INDEX_ROOM];
+    index_links(links, count, &mut index);
+    undo_down(store, links, count, &mut index, cut, levels);
     Answer::Done(n)
 }

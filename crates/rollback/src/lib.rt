@@ -1,10 +1,3 @@
-// Rollback: the events that go, whether they can, and undoing them.
-pub mod aims;
-pub mod arrivals;
-pub mod bounds;
-pub mod collecting;
-pub mod cut;
+// Rollback: an event is undone with all that depend on it, or nothing is.
 pub mod down;
-pub mod links;
 pub mod rollback;
-pub mod search;

@@ -1,12 +1,14 @@
 // Rollback.
-use crate::arrivals::levels;
-use crate::bounds::LINES;
-use crate::bounds::LINKS;
-use crate::collecting::Sort;
-use crate::collecting::collect;
-use crate::cut::settled;
 use crate::down::undo_to;
 use calls::answers::Answer;
+use cuts::bounds::LINES;
+use cuts::bounds::LINKS_ROOM;
+use cuts::cut::settled;
+use cuts::events::Event;
+use cuts::events::entries_line;
+use links::arrivals::levels;
+use links::collecting::Sort;
+use links::collecting::collect;
 use reading::entries::kind;
 use reading::entries::number;
 use reading::found::Found;
@@ -20,8 +22,8 @@ ghost use Rattle.rules.specs.Rollback.{isCheck};
 ghost use Rattle.store.specs.Image.{IsImage};
 ghost use Rattle.calls.specs.Numbers.{RollbackCall};
 ghost use Rattle.reading.specs.Reads.{OfState, IsPlace, IsEntry, OfEntry};
-ghost use Rattle.rollback.specs.Links.{Levels, Links};
-ghost use Rattle.rollback.specs.Going.{FindsCheck, Happens, EventBack, OfWords};
+ghost use Rattle.cuts.specs.Links.{Levels, Links};
+ghost use Rattle.rollback.specs.Undone.{FindsCheck, Happens, EventBack, OfWords};
 
 // Whether entry i of p is check t.
 fn is_check(store: &[u32], p: usize, i: usize, t: u32) -> bool
@@ -49,35 +51,33 @@ fn newest_check(store: &[u32], p: usize, t: u32) -> Found
     Found::Nowhere
 }
 
-// With the numbers of the state: event i of line x is undone with all events that depend on it, or nothing is.
+// With the numbers of the state, of which the first links are 01's list: an event is undone with all events that depend on it, or nothing
+// is.
 fn event_back(
     store: &mut [u32],
     links: &[usize],
     few: usize,
     many: usize,
-    levels: [usize; LINES],
-    x: usize,
-    i: usize,
+    levels: &[usize; LINES],
+    event: Event,
 ) -> Answer
-    requires { ⌜ IsImage (now store) × OfState (now store) (λ s. Links s (now links) few many) × OfState (now store) (λ s. Levels s levels) × OfState (now store) (Happens x i) ⌝ }
-    ensures { λ r. ⌜ OfWords (now (store .entry)) (EventBack x i (now (store .exit)) r) ⌝ }
+    requires { ⌜ IsImage (now store) × OfState (now store) (λ s. Links s (now links) few many) × OfState (now store) (λ s. Levels s (now levels)) × OfState (now store) (Happens (event .line) (event .index)) ⌝ }
+    ensures { λ r. ⌜ OfWords (now (store .entry)) (EventBack (event .line) (event .index) (now (store .exit)) r) ⌝ }
 {
-    let mut from = levels;
-    from[x] = i;
-    let cut = settled(links, few, from);
-    undo_to(store, links, many, cut, levels)
+    let cut = settled(links, few, levels, event.line, event.index);
+    undo_to(store, links, many, &cut, levels)
 }
 
-// Event i of line x is undone with all events that depend on it, or nothing is.
-pub fn take_back(store: &mut [u32], x: usize, i: usize) -> Answer
-    requires { ⌜ IsImage (now store) × OfState (now store) (Happens x i) ⌝ }
-    ensures { λ r. ⌜ OfWords (now (store .entry)) (EventBack x i (now (store .exit)) r) ⌝ }
+// An event is undone with all events that depend on it, or nothing is.
+pub fn take_back(store: &mut [u32], event: Event) -> Answer
+    requires { ⌜ IsImage (now store) × OfState (now store) (Happens (event .line) (event .index)) ⌝ }
+    ensures { λ r. ⌜ OfWords (now (store .entry)) (EventBack (event .line) (event .index) (now (store .exit)) r) ⌝ }
 {
     let level = levels(store);
-    let mut links = [0usize; LINKS];
+    let mut links = [0usize; LINKS_ROOM];
     let few = collect(store, Sort::Ties, &mut links, 0);
     let many = collect(store, Sort::Aims, &mut links, few);
-    event_back(store, &links, few, many, level, x, i)
+    event_back(store, &links, few, many, &level, event)
 }
 
 // rollback p t
@@ -93,5 +93,12 @@ pub fn rollback(store: &mut [u32], p: u32, t: u32) -> Answer
     let Found::At(i) = newest_check(store, p as usize, t) else {
         return Answer::NoCheckpoint;
     };
-    take_back(store, 2 * p as usize, i)
+    let line = entries_line(p as usize);
+    take_back(
+        store,
+        Event {
+            line: line,
+            index: i,
+        },
+    )
 }

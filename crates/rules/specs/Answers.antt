@@ -1,4 +1,4 @@
--- The numbers that come back: 01's table. Assumes nothing: these are definitions.
+-- The numbers that come back: 01's table.
 use Prim.Native.Nat.{ℕ}
 
 abbrev pub done : ℕ

@@ -11,13 +11,10 @@ use Rattle.rules.specs.Load.{loaded}
 use Rattle.rules.specs.Text.{bytes}
 use Rattle.rules.specs.Line.{linesOf, parseLine}
 use Rattle.rules.specs.Replies.{perform}
-use Rattle.rules.specs.Bench.{bench}
+use Rattle.rules.specs.Bench.{bench, benchSizes}
 use Rattle.rules.specs.Opened.{opened}
 
 -- the numbers of the answers to text commands, one a line, after a load with P 4, H 16, W 64
-abbrev pub benchSizes : Sizes
-benchSizes = record { places = 4; entries = 16; words = 64 }
-
 unfoldable pub numbers : State → List (List ℕ) → List ℕ
 numbers s [] = []
 numbers s (text ∷ texts) = elim (parseLine text) [

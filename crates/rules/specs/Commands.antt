@@ -1,5 +1,5 @@
 -- The single steps, forward and back, with 01's answers in 01's order: 3, 4, 7, 5, 6, 8, 9, 10 forward; 11 for deliver; 3, 12, 13
--- undoing. Assumes nothing: these are definitions.
+-- undoing.
 use Prim.Native.Nat.{ℕ}
 use mathlib.Core.Bool.{Bool, true, false, not, _&&_}
 use mathlib.Core.Option.{Option, none, some}
@@ -67,15 +67,15 @@ unfoldable pub need : Bool → ℕ → Plan → Plan
 need true number plan = plan
 need false number plan = refuse number
 
--- The oldest message that a receive takes: what stands before it, the message, what stands after it, the next control.
+-- The oldest message that a receive takes: what stands ahead of it, the message, what stands behind it, the next control.
 -- "Receive tries messages oldest first, for each the clauses in order."
 pub data Picked : Type 0 where
-  picked : (older : List Message) (m : Message) (newer : List Message) (next : List ℕ) → Picked
+  picked : (ahead : List Message) (m : Message) (behind : List Message) (next : List ℕ) → Picked
 
 unfoldable pub orLater : Message → List Message → Option (List ℕ) → Option Picked → Option Picked
 orLater m queue (some next) later = some (picked [] m queue next)
 orLater m queue none none = none
-orLater m queue none (some (picked older n newer next)) = some (picked (m ∷ older) n newer next)
+orLater m queue none (some (picked ahead n behind next)) = some (picked (m ∷ ahead) n behind next)
 
 unfoldable pub pick : (List ℕ → Option (List ℕ)) → List Message → Option Picked
 pick takes [] = none
@@ -95,7 +95,7 @@ module _ (s : State) (p : ℕ) (process : Process) where
   -- 5 where nothing matches
   unfoldable pub receiving : Option Picked → Plan
   receiving none = refuse waiting
-  receiving (some (picked older m newer next)) = making (rec older m newer) next (ownQueue (older ++ newer))
+  receiving (some (picked ahead m behind next)) = making (rec ahead m behind) next (ownQueue (ahead ++ behind))
 
   -- "step p makes one step that isn't a spawn"; "a send to .. a pid not in the pool is stuck"
   unfoldable pub stepping : Work → Plan
@@ -139,8 +139,8 @@ untouched s q = isNew (s .processes q) && sameQueue (s .queues q) [] && not (awa
 unfoldable pub undoing : State → ℕ → Entry → List Entry → Kind → Plan
 undoing s p e older seq = undone p e older nothing
 undoing s p e older (send target value) = need (flies s p (sends older) target) held (undone p e older nothing)
-undoing s p e older (rec before m after) =
-    need (sameQueue (s .queues p) (before ++ after)) held (undone p e older (ownQueue (before ++ (m ∷ after))))
+undoing s p e older (rec ahead m behind) =
+    need (sameQueue (s .queues p) (ahead ++ behind)) held (undone p e older (ownQueue (ahead ++ (m ∷ behind))))
 undoing s p e older (spawn child) = need (untouched s child) held (undone p e older (other child none))
 undoing s p e older self = undone p e older nothing
 undoing s p e older (check number) = undone p e older nothing

@@ -1,4 +1,4 @@
--- What depends on what. 01: "Events are entries and deliveries." Assumes nothing: these are definitions.
+-- What depends on what. 01: "Events are entries and deliveries."
 use Prim.Native.Nat.{ℕ}
 use mathlib.Core.Path.{_≡_}
 use mathlib.Core.Logic.{_⊎_}
@@ -15,7 +15,7 @@ use Rattle.rules.specs.Flight.{sends, taken}
 
 unfoldable pub queueBefore : Option Taking → List Message
 queueBefore none = []
-queueBefore (some (taking older m newer)) = older ++ (m ∷ newer)
+queueBefore (some (taking ahead m behind)) = ahead ++ (m ∷ behind)
 
 -- the queues that the recs of a history show, oldest first, and then one more
 unfoldable pub queuesShown : List Entry → List Message → List (List Message)
@@ -33,19 +33,22 @@ shownIn come (queue ∷ queues) = shownIn (come ++ keep (λ m. not (isAmong come
 unfoldable pub arrivals : State → ℕ → List Message
 arrivals s q = shownIn [] (queuesShown (historyAt s q) (s .queues q))
 
--- Events. A process has two lines of events, its entries and the deliveries to it, each counted from 0 and the oldest.
+-- Events. A process has two series of events, its entries and the deliveries to it, each counted from 0 and the oldest.
 
-pub data Line : Type 0 where
-  entriesOf : (p : ℕ) → Line
-  deliveriesTo : (q : ℕ) → Line
+pub data Series : Type 0 where
+  entriesOf : (p : ℕ) → Series
+  deliveriesTo : (q : ℕ) → Series
 
-unfoldable pub level : State → Line → ℕ
+pub data Event : Type 0 where
+  event : Series → ℕ → Event
+
+-- how many events of a series have happened
+unfoldable pub level : State → Series → ℕ
 level s (entriesOf p) = length (historyAt s p)
 level s (deliveriesTo q) = length (arrivals s q)
 
--- event i of a line has happened
-unfoldable pub happened : State → Line → ℕ → Bool
-happened s x i = ltb i (level s x)
+unfoldable pub happened : State → Event → Bool
+happened s (event x i) = ltb i (level s x)
 
 -- "An event depends at once on: .."
 
@@ -81,35 +84,36 @@ isSendOf none p e older = false
 isSendOf (some m) p none older = false
 isSendOf (some m) p (some e) older = elim (asSend (e .kind)) [ none ↦ false | some l ↦ isNamed p (sends older) m ]
 
--- event i of the first line depends at once on event j of the second
-unfoldable pub listed : State → Line → ℕ → Line → ℕ → Bool
-listed s (entriesOf p) i (entriesOf q) j =
+-- the first event is listed as depending at once on the second
+unfoldable pub listed : State → Event → Event → Bool
+listed s (event (entriesOf p) i) (event (entriesOf q) j) =
     -- "older entries of its own process if it is an entry"
     (eqb p q && ltb j i)
     -- "the spawn of the process it happens at"
     || isSpawnOf p (entryAt (historyAt s q) j)
-listed s (entriesOf p) i (deliveriesTo q) j =
+listed s (event (entriesOf p) i) (event (deliveriesTo q) j) =
     -- "deliveries in its queue before, if a rec"
     eqb p q && inQueueBefore (getElem? (arrivals s q) j) (entryAt (historyAt s p) i)
-listed s (deliveriesTo q) i (entriesOf p) j =
+listed s (event (deliveriesTo q) i) (event (entriesOf p) j) =
     -- "a rec of that process made before the message arrived, if a delivery"
     (eqb p q && madeBefore (getElem? (arrivals s q) i) (entryAt (historyAt s p) j) (olderThan j (historyAt s p)))
     -- "the send of the message it delivers"
     || isSendOf (getElem? (arrivals s q) i) p (entryAt (historyAt s p) j) (olderThan j (historyAt s p))
     -- "the spawn of the process it happens at"
     || isSpawnOf q (entryAt (historyAt s p) j)
-listed s (deliveriesTo q) i (deliveriesTo r) j =
+listed s (event (deliveriesTo q) i) (event (deliveriesTo r) j) =
     -- "earlier deliveries to the process if it is a delivery"
     eqb q r && ltb j i
 
-unfoldable pub dependsAtOnce : State → Line → ℕ → Line → ℕ → Bool
-dependsAtOnce s x i y j = happened s x i && happened s y j && listed s x i y j
+-- e depends at once on d, and both have happened
+unfoldable pub dependsAtOnce : State → (e d : Event) → Bool
+dependsAtOnce s e d = happened s e && happened s d && listed s e d
 
--- "Depends on is the chain of these": event j of y depends on event i of x
-pub data Depends (s : State) (x : Line) (i : ℕ) : Line → ℕ → Type 0 where
-  at-once : {y : Line} {j : ℕ} → dependsAtOnce s y j x i ≡ true → Depends s x i y j
-  chain : {y z : Line} {j k : ℕ} → dependsAtOnce s z k y j ≡ true → Depends s x i y j → Depends s x i z k
+-- "Depends on is the chain of these": e depends on d
+pub data DependsOn (s : State) : (e d : Event) → Type 0 where
+  at-once : {e d : Event} → dependsAtOnce s e d ≡ true → DependsOn s e d
+  chain : {e f d : Event} → dependsAtOnce s e f ≡ true → DependsOn s f d → DependsOn s e d
 
--- an event with all events that depend on it
-unfoldable pub WithDependents : State → Line → ℕ → Line → ℕ → Type 0
-WithDependents s x i y j = ((x ≡ y) × (i ≡ j)) ⊎ Depends s x i y j
+-- d with all events that depend on it: e is among them
+unfoldable pub WithDependents : State → (d e : Event) → Type 0
+WithDependents s d e = (d ≡ e) ⊎ DependsOn s e d

@@ -1,4 +1,4 @@
--- Sends, what recs took and left, and the messages in flight. Assumes nothing: these are definitions.
+-- Sends, what recs took and left, and the messages in flight.
 use Prim.Native.Nat.{ℕ, suc}
 use mathlib.Core.Bool.{Bool, false, cond, not, _&&_, _||_}
 use mathlib.Core.Option.{Option, none, some}
@@ -28,7 +28,7 @@ sent (e ∷ h) k = letterOr (asSend (e .kind)) (sends h) k (sent h k)
 -- the messages that the recs of a history took, newest first
 unfoldable pub alsoTaken : Option Taking → List Message → List Message
 alsoTaken none older = older
-alsoTaken (some (taking before m after)) older = m ∷ older
+alsoTaken (some (taking ahead m behind)) older = m ∷ older
 
 unfoldable pub taken : List Entry → List Message
 taken [] = []
@@ -37,7 +37,7 @@ taken (e ∷ h) = alsoTaken (asRec (e .kind)) (taken h)
 -- the queue that the newest rec of a history left (no rec: the empty queue)
 unfoldable pub leftOr : Option Taking → List Message → List Message
 leftOr none older = older
-leftOr (some (taking before m after)) older = before ++ after
+leftOr (some (taking ahead m behind)) older = ahead ++ behind
 
 unfoldable pub left : List Entry → List Message
 left [] = []
@@ -47,17 +47,18 @@ left (e ∷ h) = leftOr (asRec (e .kind)) (left h)
 unfoldable pub hasCome : State → (s k t : ℕ) → Bool
 hasCome st s k t = any (isNamed s k) (st .queues t) || any (isNamed s k) (taken (historyAt st t))
 
--- a message sent to t is in flight until it has come
+-- a message sent to t, which is in the pool, is in flight until it has come
 unfoldable pub flies : State → (s k t : ℕ) → Bool
 flies st s k t = inPool st t && not (hasCome st s k t)
 
-unfoldable pub inFlight : State → (s k : ℕ) → Bool
-inFlight st s k = elim (sent (historyAt st s) k) [ none ↦ false | some (letter t v) ↦ flies st s k t ]
+unfoldable pub isFlying : State → (s k : ℕ) → Bool
+isFlying st s k = elim (sent (historyAt st s) k) [ none ↦ false | some (letter t v) ↦ flies st s k t ]
 
--- something is in flight to q
+-- message s.k is in flight to q
 unfoldable pub fliesTo : State → (q s k : ℕ) → Bool
 fliesTo st q s k = elim (sent (historyAt st s) k) [ none ↦ false | some (letter t v) ↦ eqb t q && flies st s k t ]
 
+-- something is in flight to q
 unfoldable pub awaited : State → ℕ → Bool
 awaited st q = any (λ s. any (fliesTo st q s) (upTo (sends (historyAt st s)))) (upTo (st .sizes .places))
 
@@ -67,7 +68,7 @@ pub data Name : Type 0 where
 
 -- the names of all messages in flight, by sender, then count
 unfoldable pub flightOf : State → ℕ → List Name
-flightOf st s = map (λ k. name s k) (keep (inFlight st s) (upTo (sends (historyAt st s))))
+flightOf st s = map (λ k. name s k) (keep (isFlying st s) (upTo (sends (historyAt st s))))
 
 unfoldable pub flight : State → List Name
 flight st = joined (map (flightOf st) (upTo (st .sizes .places)))

@@ -1,4 +1,4 @@
--- Independence. 01: "Two different single steps accepted at one state are independent unless: ..". Assumes nothing: these are definitions.
+-- Independence. 01: "Two different single steps accepted at one state are independent unless: ..".
 use Prim.Native.Nat.{ℕ}
 use mathlib.Core.Path.{_≡_}
 use mathlib.Core.Option.{Option, none, some}

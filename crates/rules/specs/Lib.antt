@@ -1,9 +1,10 @@
--- States, commands, and 01's demands on them.
+-- States, commands, dependence and rollback: 01 as definitions that compute.
 pub mod Answers
 pub mod State
 pub mod Flight
 pub mod Load
 pub mod Commands
+pub mod Receives
 pub mod Rules
 pub mod Refusals
 pub mod Reverse
@@ -20,6 +21,5 @@ pub mod Opened
 pub mod Bench
 pub mod Cases
 pub mod RollbackCases
-pub mod Demands
-pub mod RollbackDemands
-pub mod Limits
+pub mod ClauseCases
+pub mod SoundSentences

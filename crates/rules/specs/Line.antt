@@ -1,4 +1,4 @@
--- Text commands. 01: "command lines (LF, last one optional; numbers 0..255, no leading zeros)". Assumes nothing: these are definitions.
+-- Text commands. 01: "command lines (LF, last one optional; numbers 0..255, no leading zeros)".
 use Prim.Native.Nat.{ℕ, _+_, _*_, _-_}
 use Prim.Native.String.{String}
 use mathlib.Core.Bool.{true, false, cond, _&&_}
@@ -13,7 +13,7 @@ pub data Request : Type 0 where
   single : Command → Request
   rollbackTo : (p t : ℕ) → Request
 
--- what stands between the separators, which are at least none: a text with none is one piece
+-- the pieces of a text between its separators; a text without one is one piece
 unfoldable pub ontoFirst : ℕ → List (List ℕ) → List (List ℕ)
 ontoFirst b [] = (b ∷ []) ∷ []
 ontoFirst b (piece ∷ pieces) = (b ∷ piece) ∷ pieces

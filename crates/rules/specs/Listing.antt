@@ -1,4 +1,4 @@
--- The listing of a state, as bytes. Assumes nothing: these are definitions.
+-- The listing of a state, as bytes.
 use Prim.Native.Nat.{ℕ}
 use Prim.Native.String.{String}
 use mathlib.Core.Option.{Option, none, some}

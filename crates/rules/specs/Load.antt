@@ -1,4 +1,4 @@
--- Load. 01: "Load: 2, 1." and "Load puts `apply 0()` at place 0." Assumes nothing: these are definitions.
+-- Load. 01: "Load: 2, 1." and "Load puts `apply 0()` at place 0."
 use Prim.Native.Nat.{ℕ}
 use mathlib.Core.Bool.{Bool, true, false, _&&_}
 use mathlib.Core.Option.{none, some}

@@ -1,4 +1,4 @@
--- What the program bench replies to command lines. Assumes nothing: these are definitions.
+-- What the program bench replies to command lines.
 use Prim.Native.Nat.{ℕ}
 use mathlib.Core.Option.{Option, none, some}
 use mathlib.Core.List.{List, [], _∷_, _++_}
@@ -13,24 +13,24 @@ use Rattle.rules.specs.Text.{decimal, line}
 use Rattle.rules.specs.Line.{Request, single, rollbackTo, parseLine}
 use Rattle.rules.specs.Listing.{listing}
 
--- an answer's number, what an accepted rollback adds, and the state after
-pub record Answer : Type 0 where
+-- a reply's number, what an accepted rollback adds, and the state after
+pub record Reply : Type 0 where
   pub number : ℕ
   pub undone : Option ℕ
   pub after : State
 
-abbrev pub answer : ℕ → Option ℕ → State → Answer
-answer number undone after = record { number = number; undone = undone; after = after }
+abbrev pub reply : ℕ → Option ℕ → State → Reply
+reply number undone after = record { number = number; undone = undone; after = after }
 
-unfoldable pub ofPlan : State → Plan → Answer
-ofPlan s (refuse number) = answer number none s
-ofPlan s (accept deed move) = answer done none (apply move s)
+unfoldable pub ofPlan : State → Plan → Reply
+ofPlan s (refuse number) = reply number none s
+ofPlan s (accept deed move) = reply done none (apply move s)
 
-unfoldable pub ofRollback : State → RolledBack → Answer
-ofRollback s (Rollback.refused number) = answer number none s
-ofRollback s (rolled count end) = answer done (some count) end
+unfoldable pub ofRollback : State → RolledBack → Reply
+ofRollback s (Rollback.refused number) = reply number none s
+ofRollback s (rolled count end) = reply done (some count) end
 
-unfoldable pub perform : Request → State → Answer
+unfoldable pub perform : Request → State → Reply
 perform (single c) s = ofPlan s (run c s)
 perform (rollbackTo p t) s = ofRollback s (rollback p t s)
 

@@ -1,5 +1,5 @@
 -- The command that reverses an accepted one: it undoes the step just taken, or retakes the step just undone, by its own command. And
--- which commands go forward, and how much is done at a state. Assumes nothing: these are definitions.
+-- which commands go forward, and how much is done at a state.
 use Prim.Native.Nat.{ℕ, zero, suc, _+_}
 use mathlib.Core.Bool.{Bool, true, false}
 use mathlib.Core.Option.{Option, none, some}

@@ -10,7 +10,7 @@ use Rattle.rules.specs.State.{Message, send, rec, spawn, check, Entry, P
 use Rattle.rules.specs.Commands.{entry}
 use Rattle.rules.specs.Text.{bytes}
 use Rattle.rules.specs.Rollback.{refused, rollback}
-use Rattle.rules.specs.Bench.{bench}
+use Rattle.rules.specs.Bench.{bench, benchModule}
 use Rattle.rules.specs.Opened.{opened}
 
 -- 0 is `let Y = spawn 1() in {Y ! 6, check 7, Y ! 5}`, 1 is `let W = check 8 in receive X -> X end`
@@ -59,9 +59,6 @@ someAtom = 0x02000005 ∷ []
 
 abbrev pub sendTo : ℕ → List ℕ
 sendTo pid = 0x0E020000 ∷ pid ∷ 0x02000005 ∷ []
-
-abbrev pub benchModule : List ℕ
-benchModule = 0x12000000 ∷ 0x0B020000 ∷ 0x10000007 ∷ 0x01000000 ∷ []
 
 abbrev pub at0 : List Entry → ℕ → Option Process
 at0 history = put 0 (some (record { control = 0x02000001 ∷ []; history = history })) (λ p. none)

@@ -1,17 +1,17 @@
--- The rules of the paper as a relation: what a single step needs of a state, and what it does and writes. Seq, Self, Check, Send, Receive,
--- Spawn and Sched have a constructor each, and so have their reverses. `run` accepts exactly these (proofs/RunSound, proofs/RunComplete).
--- Assumes nothing: these are definitions.
+-- The rules of the paper (document 000, figures 10 and 11) as a relation: what a single step needs of a state, and the state after. `run`
+-- accepts exactly these (demands/specs/Demands, `AreTheRules`).
 use Prim.Native.Nat.{ℕ, _<_, _≤_}
 use mathlib.Core.Path.{_≡_}
 use mathlib.Core.Bool.{true, false}
 use mathlib.Core.Option.{Option, none, some}
 use mathlib.Core.List.{List, [], _∷_, _++_}
 use lib.ListN.{length}
-use Rattle.machine.specs.Work.{toSeq, toSend, toReceive, toSpawn, toSelf, toCheck, work}
+use Rattle.machine.specs.Work.{Work, toSeq, toSend, toReceive, toSpawn, toSelf, toCheck, work}
 use Rattle.rules.specs.State.{Message, letter, Kind, seq, send, rec, spawn, self, check, Entry, Process, State, historyAt, inPool}
 use Rattle.rules.specs.Flight.{sends, sent, left, flies}
 use Rattle.rules.specs.Load.{newProcess}
-use Rattle.rules.specs.Commands.{Command, step, spawnInto, deliver, back, undeliver, Deed, makes, undoes, delivers, undelivers, Beside, nothing, ownQueue, other, Move, turn, post, picked, pick, entry}
+use Rattle.rules.specs.Commands.{Command, step, spawnInto, deliver, back, undeliver, Deed, makes, undoes, delivers, undelivers, setProcess, setQueue, entry}
+use Rattle.rules.specs.Receives.{TakesOldest}
 
 abbrev pub process : List ℕ → List Entry → Process
 process control history = record { control = control; history = history }
@@ -24,55 +24,59 @@ pub record InFlight (st : State) (s k t : ℕ) (value : List ℕ) : Type 0 where
   pub out : sent (historyAt st s) k ≡ some (letter t value)
   pub up : flies st s k t ≡ true
 
--- p with the control makes an entry of a kind and has the next control, and nobody else is concerned
-pub data MakesAlone (s : State) (p : ℕ) (control : List ℕ) : Kind → List ℕ → Type 0 where
-  by-seq : {next : List ℕ} → work (s .module′) control ≡ toSeq next → MakesAlone s p control seq next
-  by-self : {next : ℕ → List ℕ} → work (s .module′) control ≡ toSelf next → MakesAlone s p control self (next p)
-  by-check : {number : ℕ} {next : List ℕ} → work (s .module′) control ≡ toCheck number next → MakesAlone s p control (check number) next
+-- p's control and history, and what that control is about to do
+pub record About (s : State) (p : ℕ) (control : List ℕ) (history : List Entry) (doing : Work) : Type 0 where
+  pub stands : s .processes p ≡ some (process control history)
+  pub is : work (s .module′) control ≡ doing
 
--- p with the control makes an entry of a kind and has the next control, with what is written beside it
-pub data Makes (s : State) (p : ℕ) (control : List ℕ) : Kind → List ℕ → Beside → Type 0 where
-  alone : {kind : Kind} {next : List ℕ} → MakesAlone s p control kind next → Makes s p control kind next nothing
-  by-send : {target : ℕ} {value next : List ℕ} → work (s .module′) control ≡ toSend target value next → inPool s target ≡ true
-      → Makes s p control (send target value) next nothing
-  by-receive : {takes : List ℕ → Option (List ℕ)} {m : Message} {older newer : List Message} {next : List ℕ}
-      → work (s .module′) control ≡ toReceive takes → pick takes (s .queues p) ≡ some (picked older m newer next)
-      → Makes s p control (rec older m newer) next (ownQueue (older ++ newer))
-  by-spawn : {child : List ℕ} {next : ℕ → List ℕ} {f : ℕ} → work (s .module′) control ≡ toSpawn child next → f < s .sizes .places → inPool s f ≡ false
-      → Makes s p control (spawn f) (next f) (other f (some (newProcess child)))
+-- the state with p's control and history so
+abbrev pub with : State → ℕ → List ℕ → List Entry → State
+with s p control history = setProcess p (some (process control history)) s
 
--- an entry of the kind concerns nobody else
-pub data Alone : Kind → Type 0 where
-  seq-alone : Alone seq
-  self-alone : Alone self
-  check-alone : {number : ℕ} → Alone (check number)
+-- p makes an entry of a kind and has the next control, and the state after it (figure 10)
+pub data Makes (s : State) (p : ℕ) (control : List ℕ) (history : List Entry) : Kind → (next : List ℕ) → (after : State) → Type 0 where
+  by-seq : {next : List ℕ} → About s p control history (toSeq next)
+      → Makes s p control history seq next (with s p next (entry seq control ∷ history))
+  by-check : {number : ℕ} {next : List ℕ} → About s p control history (toCheck number next)
+      → Makes s p control history (check number) next (with s p next (entry (check number) control ∷ history))
+  by-self : {next : ℕ → List ℕ} → About s p control history (toSelf next)
+      → Makes s p control history self (next p) (with s p (next p) (entry self control ∷ history))
+  by-send : {target : ℕ} {value next : List ℕ} → About s p control history (toSend target value next) → inPool s target ≡ true
+      → Makes s p control history (send target value) next (with s p next (entry (send target value) control ∷ history))
+  by-receive : {takes : List ℕ → Option (List ℕ)} {m : Message} {ahead behind : List Message} {next : List ℕ}
+      → About s p control history (toReceive takes) → TakesOldest takes (s .queues p) ahead m behind next
+      → Makes s p control history (rec ahead m behind) next (setQueue p (ahead ++ behind) (with s p next (entry (rec ahead m behind) control ∷ history)))
+  by-spawn : {child : List ℕ} {next : ℕ → List ℕ} {f : ℕ} → About s p control history (toSpawn child next) → f < s .sizes .places → inPool s f ≡ false
+      → Makes s p control history (spawn f) (next f) (setProcess f (some (newProcess child)) (with s p (next f) (entry (spawn f) control ∷ history)))
 
--- p's newest entry, of a kind and with so many sends before it, may be undone, with what is written beside it
-pub data Undoes (s : State) (p count : ℕ) : Kind → Beside → Type 0 where
-  undo-alone : {kind : Kind} → Alone kind → Undoes s p count kind nothing
-  undo-send : {target : ℕ} {value : List ℕ} → InFlight s p count target value → Undoes s p count (send target value) nothing
-  undo-receive : {m : Message} {older newer : List Message} → s .queues p ≡ older ++ newer
-      → Undoes s p count (rec older m newer) (ownQueue (older ++ (m ∷ newer)))
+-- p's newest entry, with its control before and the older entries, is undone, and the state after that (figure 11)
+pub data Undoes (s : State) (p : ℕ) (before : List ℕ) (older : List Entry) : Kind → (after : State) → Type 0 where
+  undo-seq : Undoes s p before older seq (with s p before older)
+  undo-check : {number : ℕ} → Undoes s p before older (check number) (with s p before older)
+  undo-self : Undoes s p before older self (with s p before older)
+  undo-send : {target : ℕ} {value : List ℕ} → InFlight s p (sends older) target value → Undoes s p before older (send target value) (with s p before older)
+  undo-receive : {m : Message} {ahead behind : List Message} → s .queues p ≡ ahead ++ behind
+      → Undoes s p before older (rec ahead m behind) (setQueue p (ahead ++ (m ∷ behind)) (with s p before older))
   undo-spawn : {q : ℕ} {first : List ℕ} → s .processes q ≡ some (newProcess first) → s .queues q ≡ []
-      → ((sender k : ℕ) (value : List ℕ) → ¬ InFlight s sender k q value) → Undoes s p count (spawn q) (other q none)
+      → ((sender k : ℕ) (value : List ℕ) → ¬ InFlight s sender k q value) → Undoes s p before older (spawn q) (setProcess q none (with s p before older))
 
-pub data Does (s : State) : Deed → Move → Type 0 where
-  forward : {p : ℕ} {control next : List ℕ} {history : List Entry} {kind : Kind} {beside : Beside} → s .processes p ≡ some (process control history)
-      → Makes s p control kind next beside → length history < s .sizes .entries → length next ≤ s .sizes .words
-      → Does s (makes p kind) (turn p (process next (entry kind control ∷ history)) beside)
-  backward : {p : ℕ} {control before : List ℕ} {older : List Entry} {kind : Kind} {beside : Beside}
-      → s .processes p ≡ some (process control (entry kind before ∷ older)) → Undoes s p (sends older) kind beside
-      → Does s (undoes p (sends older) kind) (turn p (process before older) beside)
-  sched : {sender k t : ℕ} {value : List ℕ} {queue : List Message} → InFlight s sender k t value → s .queues t ≡ queue
-      → Does s (delivers sender k t) (post t (queue ++ (message sender k value ∷ [])))
-  unsched : {t : ℕ} (m : Message) {queue : List Message} → inPool s t ≡ true → s .queues t ≡ queue ++ (m ∷ [])
-      → length (left (historyAt s t)) < length (queue ++ (m ∷ [])) → Does s (undelivers t) (post t queue)
+-- an accepted single step leads from a state to the state after it
+pub data LeadsTo (s : State) : Deed → (after : State) → Type 0 where
+  forward : {p : ℕ} {control next : List ℕ} {history : List Entry} {kind : Kind} {after : State} → Makes s p control history kind next after
+      → length history < s .sizes .entries → length next ≤ s .sizes .words → LeadsTo s (makes p kind) after
+  backward : {p : ℕ} {control before : List ℕ} {older : List Entry} {kind : Kind} {after : State}
+      → s .processes p ≡ some (process control (entry kind before ∷ older)) → Undoes s p before older kind after → LeadsTo s (undoes p (sends older) kind) after
+  -- Sched and its reverse
+  sched : {sender k t : ℕ} {value : List ℕ} → InFlight s sender k t value
+      → LeadsTo s (delivers sender k t) (setQueue t (s .queues t ++ (message sender k value ∷ [])) s)
+  unsched : {t : ℕ} (m : Message) (queue : List Message) → inPool s t ≡ true → s .queues t ≡ queue ++ (m ∷ [])
+      → length (left (historyAt s t)) < length (s .queues t) → LeadsTo s (undelivers t) (setQueue t queue s)
 
 -- the command that does it
 unfoldable pub makingOf : ℕ → Kind → Command
 makingOf p seq = step p
 makingOf p (send target value) = step p
-makingOf p (rec older m newer) = step p
+makingOf p (rec ahead m behind) = step p
 makingOf p (spawn f) = spawnInto p f
 makingOf p self = step p
 makingOf p (check number) = step p

@@ -1,4 +1,4 @@
--- Sound states: a field for each clause of 01's paragraph, which the comments quote. Assumes nothing: these are definitions.
+-- Sound states: a field for each clause of 01's paragraph, which the comments quote.
 use Prim.Native.Nat.{ℕ, _≤_}
 use mathlib.Core.Path.{_≡_}
 use mathlib.Core.Bool.{Bool, true, false, not, _&&_}
@@ -48,7 +48,7 @@ unfoldable pub Flows : List Entry → List Message → Type 0
 Flows [] queue = Unit {0}
 Flows (e ∷ older) queue = elim (asRec (e .kind)) [
   | none ↦ Flows older queue
-  | some (taking before m after) ↦ Prefix (before ++ after) queue × Flows older (before ++ (m ∷ after))
+  | some (taking ahead m behind) ↦ Prefix (ahead ++ behind) queue × Flows older (ahead ++ (m ∷ behind))
 ]
 
 pub record Sound (s : State) : Type 0 where

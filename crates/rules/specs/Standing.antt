@@ -1,5 +1,4 @@
--- What stands where: an entry in a history, a message among the arrivals at a place, and how many arrivals a rec has seen. Assumes
--- nothing: these are definitions.
+-- What stands where: an entry in a history, a message among the arrivals at a place, and how many arrivals a rec has seen.
 use Prim.Native.Nat.{ℕ}
 use mathlib.Core.Path.{_≡_}
 use mathlib.Core.Option.{Option, none, some}

@@ -1,5 +1,5 @@
 -- States. 01: "A state is the module and sizes, the pool .., for each process a control .., a history .. and a queue, and the messages
--- in flight." The messages in flight are computed from the rest (Flight). Assumes nothing: these are definitions.
+-- in flight." The messages in flight are computed from the rest (Flight).
 use Prim.Native.Nat.{ℕ}
 use mathlib.Core.Bool.{Bool, true, false, cond, _&&_}
 use mathlib.Core.Option.{Option, none, some}
@@ -20,31 +20,31 @@ pub record Message : Type 0 where
   pub count : ℕ
   pub value : List ℕ
 
--- a name in one word, as stores and listings have it: sender × nameBase + count
+-- a name in one word, as stores have it: sender × nameBase + count
 abbrev pub nameBase : ℕ
 nameBase = 65536
 
--- what an entry holds besides the control before. A rec's queue before is what stood before its message, the message, and what stood
--- after it; so its message stands in it, and what it left is that queue without it.
+-- what an entry holds besides the control before. A rec's queue before is what stood ahead of its message, the message, and what stood
+-- behind it; so its message stands in it, and what it left is that queue without it.
 pub data Kind : Type 0 where
   seq : Kind
   send : (target : ℕ) (value : List ℕ) → Kind
-  rec : (older : List Message) (message : Message) (newer : List Message) → Kind
+  rec : (ahead : List Message) (message : Message) (behind : List Message) → Kind
   spawn : (child : ℕ) → Kind
   self : Kind
   check : (number : ℕ) → Kind
 
--- what a send sent; what a rec took, with what stood before and after it in the queue; a spawn's child; a check's number
+-- what a send sent; what a rec took, with what stood ahead of it and behind it in the queue; a spawn's child; a check's number
 pub data Letter : Type 0 where
   letter : (target : ℕ) (value : List ℕ) → Letter
 
 pub data Taking : Type 0 where
-  taking : (older : List Message) (message : Message) (newer : List Message) → Taking
+  taking : (ahead : List Message) (message : Message) (behind : List Message) → Taking
 
 unfoldable pub asSend : Kind → Option Letter
 asSend seq = none
 asSend (send target value) = some (letter target value)
-asSend (rec older message newer) = none
+asSend (rec ahead message behind) = none
 asSend (spawn child) = none
 asSend self = none
 asSend (check number) = none
@@ -52,7 +52,7 @@ asSend (check number) = none
 unfoldable pub asRec : Kind → Option Taking
 asRec seq = none
 asRec (send target value) = none
-asRec (rec older message newer) = some (taking older message newer)
+asRec (rec ahead message behind) = some (taking ahead message behind)
 asRec (spawn child) = none
 asRec self = none
 asRec (check number) = none
@@ -60,7 +60,7 @@ asRec (check number) = none
 unfoldable pub asSpawn : Kind → Option ℕ
 asSpawn seq = none
 asSpawn (send target value) = none
-asSpawn (rec older message newer) = none
+asSpawn (rec ahead message behind) = none
 asSpawn (spawn child) = some child
 asSpawn self = none
 asSpawn (check number) = none
@@ -68,7 +68,7 @@ asSpawn (check number) = none
 unfoldable pub asCheck : Kind → Option ℕ
 asCheck seq = none
 asCheck (send target value) = none
-asCheck (rec older message newer) = none
+asCheck (rec ahead message behind) = none
 asCheck (spawn child) = none
 asCheck self = none
 asCheck (check number) = some number

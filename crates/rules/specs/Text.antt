@@ -1,4 +1,4 @@
--- Texts as bytes: keys, decimal and hexadecimal numbers, words split by single spaces. Assumes nothing: these are definitions.
+-- Texts as bytes: keys, decimal and hexadecimal numbers, words split by single spaces.
 use Prim.Native.Nat.{ℕ, zero, suc, _+_, _/_, _%_}
 use Prim.Native.Char.{code}
 use Prim.Native.String.{String}

@@ -1,5 +1,5 @@
--- What is printed ends within the output that holds it.
-use Prim.Native.Nat.{ℕ, _*_, _≤_}
+-- A listing that is printed ends within the output that holds it.
+use Prim.Native.Nat.{ℕ, _≤_}
 use mathlib.Core.Path.{_≡_, refl, sym, _∙_, ap}
 use mathlib.Core.Logic.{inl, inr}
 use mathlib.Core.List.{List}
@@ -16,17 +16,6 @@ use Rattle.calls.specs.Calls.{written, ListingCall}
 use Rattle.calls.specs.Numbers.{numberOf, valueOf, Lists}
 use Rattle.calls.specs.declared.answers.Answer.{Answer}
 use Rattle.calls.specs.declared.answers.Answer.the-variants.{Done}
-use Rattle.text.proofs.WritingLaws.{wrote-length}
-use Rattle.bench.specs.Replied.{replyRoom}
-use Rattle.bench.specs.Input.{Took}
-use Rattle.bench.proofs.ReplyRoom.{text-taken}
-
-pub block-ends : {entry begun input exit since old new : List ℕ} {end : ℕ} → Took entry begun input exit since 0 old new end → replyRoom * length input ≤ length old → end ≤ length new
-block-ends t room =
-    let f = t .fits in
-    let e = text-taken (t .wrote) (omega arith) .0 in
-    let l = wrote-length (t .wrote) in
-    omega arith
 
 -- a listing that is answered `done`
 written-ends : (text out : List ℕ) → written text out .number ≡ done → written text out .value ≤ length out

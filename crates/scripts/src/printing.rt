@@ -1,34 +1,13 @@
-// What the programs print.
-use bench::lines::reply;
+// Replies and listings printed.
 use calls::answers::Answer;
-use libc::STDOUT_FILENO;
+use console::printing::print;
+use lines::lines::reply;
 use listing::listing::listing;
-use text::replies::write_number_line;
-ghost use Prim.Native.Nat.{_≤_};
-ghost use lib.ListN.{length};
-
-// Room for a reply, or for a key and a number.
-pub const REPLY: usize = 32;
-
-// Prints the first bytes of an output.
-pub fn print(out: &[u8], end: usize)
-    requires { ⌜ end ≤ length (now out) ⌝ }
-{
-    io::write_all(STDOUT_FILENO, &out[..end]);
-}
-
-// Prints a key and a number.
-pub fn print_number(key: &[u8], n: u32) {
-    let mut out = [0u8; REPLY];
-    let end = write_number_line(&mut out, 0, key, n);
-    if end <= REPLY {
-        print(&out, end);
-    }
-}
+use text::replies::REPLY_ROOM;
 
 // Prints the reply to a command line.
 pub fn print_reply(store: &mut [u32], text: &[u8]) {
-    let mut out = [0u8; REPLY];
+    let mut out = [0u8; REPLY_ROOM];
     let end = reply(store, text, &mut out, 0);
     print(&out, end);
 }

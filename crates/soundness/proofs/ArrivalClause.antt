@@ -26,11 +26,12 @@ use Rattle.store.proofs.Restoring.{readSend, readSends}
 use Rattle.store.proofs.Histories.{sends-few, sent-below}
 use Rattle.store.proofs.SoundSlots.{takenName, takenIf, takenNames, sentBy, SaidTo}
 use Rattle.store.proofs.SoundSlots
-use Rattle.soundness.specs.SoundTests.{kindWord, numberWord, namesIn, runAll, arriveFrom}
-use Rattle.soundness.proofs.Marks.{Marked, marked, marks}
-use Rattle.soundness.proofs.Occurring.{occurs-so, all-occurring, occurs-reverse}
+use Rattle.slots.specs.SoundTests.{kindWord, numberWord, namesIn, runAll}
+use Rattle.soundness.specs.MessageTests.{arriveFrom}
+use Rattle.slots.proofs.Marks.{Marked, marked, marks}
+use Rattle.slots.proofs.Occurring.{occurs-so, all-occurring, occurs-reverse}
 use Rattle.soundness.proofs.SlotsInUse.{entries-few}
-use Rattle.soundness.proofs.BlockViews.{names-read, entries-collected, blocksIn, block-long, block-well, place-read}
+use Rattle.slots.proofs.BlockViews.{names-read, entries-collected, blocksIn, block-long, block-well, place-read}
 use Rattle.soundness.proofs.ArrivalMarks.{Came, came, nameAt, arrive, keyOf, Sent, Part, Untaken, arrival-marks, whole-part, takenOf, cameTo, cameFrom, all-run}
 
 -- ---- keys

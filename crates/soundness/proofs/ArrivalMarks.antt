@@ -14,8 +14,9 @@ use Rattle.lists.specs.Lists.{joined}
 use Rattle.lists.proofs.Tests.{none-not-some, some-injective, true-or-false, eqb-true, eqb-of, ltb-true, ltb-of, cond-true, cond-false}
 use Rattle.lists.proofs.Blocks.{chop}
 use Rattle.store.specs.Layout.{slotHead, nameBase, kindRec}
-use Rattle.soundness.specs.SoundTests.{kindWord, numberWord, namesIn, andThen, runAll, arriveAt, arriveOne, arriveAll, arriveSlot, arriveTaken, arrivePlace, arriveFrom}
-use Rattle.soundness.proofs.Marks.{run-append, run-joined, Marking}
+use Rattle.slots.specs.SoundTests.{kindWord, numberWord, namesIn, andThen, runAll}
+use Rattle.soundness.specs.MessageTests.{arriveAt, arriveOne, arriveAll, arriveSlot, arriveTaken, arrivePlace, arriveFrom}
+use Rattle.slots.proofs.Marks.{run-append, run-joined, Marking}
 
 -- a message that came to a place, by its name
 pub record Came : Type 0 where

@@ -11,7 +11,8 @@ use Rattle.lists.specs.Decides.{Decides}
 use Rattle.lists.proofs.Tests.{eqb-true, eqb-of, true-or-false, true-not-false, and-left, and-right, and-of, cond-true, cond-false}
 use Rattle.rules.specs.State.{Sizes}
 use Rattle.store.specs.Layout.{slotHead, kindRec, Slot}
-use Rattle.soundness.specs.SoundTests.{kindWord, numberWord, namesIn, begins, leftBegins, flowsOn}
+use Rattle.slots.specs.SoundTests.{kindWord, numberWord, namesIn}
+use Rattle.soundness.specs.MessageTests.{begins, leftBegins, flowsOn}
 use Rattle.store.proofs.Reading.{readSlot}
 use Rattle.store.proofs.SoundSlots.{Begins, leftNames, SlotFlows}
 

@@ -1,17 +1,18 @@
 -- The test of prefixes: what the code compares is what the clause about flows says.
 use Prim.Native.Nat.{ℕ, suc, _+_, _-_, _≤_, _<_}
 use mathlib.Core.Path.{_≡_, refl, sym, _∙_, ap}
-use mathlib.Core.Bool.{Bool, true, false, cond, _&&_, and-assoc}
+use mathlib.Core.Bool.{Bool, true, false, cond, not, _&&_, and-assoc}
 use mathlib.Core.List.{List, [], _∷_, _++_, append-nil}
 use native.Mathlib.Omega.{arith}
 use lib.Dec.{eqb}
 use lib.ListN.{length, take, drop, getD, drop-of-length-le, length-drop}
 use lib.Seq.{drop-cons, length-take-le, take-all}
-use Rattle.lists.proofs.Tests.{eqb-of, eqb-apart, and-right, true-not-false, cond-true, cond-false}
+use Rattle.lists.proofs.Tests.{eqb-of, eqb-apart, and-right, true-not-false, cond-true, cond-false, not-true, not-false}
 use Rattle.lists.proofs.Blocks.{chop}
 use Rattle.store.specs.Layout.{slotHead, kindRec}
-use Rattle.soundness.specs.SoundTests.{numberWord, namesIn, Slots, begins, leftBegins, flowsOn}
-use Rattle.soundness.proofs.SoundTestWalk.{chop-first, behind, below-take, mid-take, names-in}
+use Rattle.slots.specs.SoundTests.{numberWord, namesIn, Slots}
+use Rattle.soundness.specs.MessageTests.{begins, leftBegins, flowsOn}
+use Rattle.slots.proofs.SoundTestWalk.{chop-first, behind, below-take, mid-take, names-in}
 
 pub begins-nothing : (ys : List ℕ) → begins [] ys ≡ true
 unfolding begins
@@ -82,20 +83,20 @@ module _ (taken : ℕ) (before after : List ℕ) where
       begins-parts (take taken before) (drop (suc taken) before) after
       ∙ ap (λ (n : ℕ). begins (take taken before) after && begins (drop (suc taken) before) (drop n after)) (length-take-le taken before (omega arith))
 
-  pub left-within : (b : Bool) → taken < length before → b ≡ begins (take taken before) after → b ≡ true → taken ≤ length after
-  left-within b h e t = omega (arith, length-take-le taken before (omega arith), begins-within (take taken before) after (sym e ∙ t))
+  pub left-within : (b : Bool) → taken < length before → b ≡ begins (take taken before) after → not b ≡ false → taken ≤ length after
+  left-within b h e t = omega (arith, length-take-le taken before (omega arith), begins-within (take taken before) after (sym e ∙ not-false b t))
 
-  pub left-breaks : (b : Bool) → taken < length before → b ≡ begins (take taken before) after → b ≡ false → false ≡ leftBegins taken before after
-  left-breaks b h e f = sym (left-is h ∙ ap (λ (c : Bool). c && begins (drop (suc taken) before) (drop taken after)) (sym e ∙ f))
+  pub left-breaks : (b : Bool) → taken < length before → b ≡ begins (take taken before) after → not b ≡ true → false ≡ leftBegins taken before after
+  left-breaks b h e f = sym (left-is h ∙ ap (λ (c : Bool). c && begins (drop (suc taken) before) (drop taken after)) (sym e ∙ not-true b f))
 
-  pub left-rest : (b r : Bool) → taken < length before → b ≡ begins (take taken before) after → b ≡ true
+  pub left-rest : (b r : Bool) → taken < length before → b ≡ begins (take taken before) after → not b ≡ false
       → r ≡ begins (take (length before - (taken + 1)) (drop (taken + 1) before)) (take (length after - taken) (drop taken after)) → r ≡ leftBegins taken before after
   left-rest b r h e t q =
       let one : suc taken ≡ taken + 1 = omega arith in
       q
       ∙ (λ i. begins (take-all (length before - (taken + 1)) (drop (taken + 1) before) (omega (arith, length-drop (taken + 1) before)) i) (take-all (length after - taken) (drop taken after) (omega (arith, length-drop taken after)) i))
       ∙ ap (λ (n : ℕ). begins (drop n before) (drop taken after)) (sym one)
-      ∙ sym (left-is h ∙ ap (λ (c : Bool). c && begins (drop (suc taken) before) (drop taken after)) (sym e ∙ t))
+      ∙ sym (left-is h ∙ ap (λ (c : Bool). c && begins (drop (suc taken) before) (drop taken after)) (sym e ∙ not-false b t))
 
 -- ---- the walk over the entries of a place
 
@@ -136,22 +137,22 @@ module _ (whole : Bool) (words size left taken : ℕ) (before t present : List �
   still : (number : ℕ) (names : List ℕ) → flowsOn words number names (chop (left - 1) size (drop size t)) present ≡ flowsOn words number names (chop (left - 1) size (take (length t - size) (drop size t))) present
   still number names = ap (λ (r : List ℕ). flowsOn words number names (chop (left - 1) size r) present) (sym (behind size t))
 
-  pub going-rec : (r : Bool) → 0 < left → getD t 0 0 ≡ kindRec → r ≡ leftBegins taken before (take (slotHead + words + getD t 4 0 - (slotHead + words)) (drop (slotHead + words) t)) → r ≡ true
+  pub going-rec : (r : Bool) → 0 < left → getD t 0 0 ≡ kindRec → r ≡ leftBegins taken before (take (slotHead + words + getD t 4 0 - (slotHead + words)) (drop (slotHead + words) t)) → not r ≡ false
       → whole ≡ flowsOn words (getD t 2 0) (take (slotHead + words + getD t 4 0 - (slotHead + words)) (drop (slotHead + words) t)) (chop (left - 1) size (take (length t - size) (drop size t))) present
   going-rec r some k e yes′ =
       let names = take (slotHead + words + getD t 4 0 - (slotHead + words)) (drop (slotHead + words) t) in
       so-far ∙ flows-rec words size left taken before t present some slots names (getD t 2 0) r refl refl k e
-      ∙ ap (λ (b : Bool). b && flowsOn words (getD t 2 0) names (chop (left - 1) size (drop size t)) present) yes′
+      ∙ ap (λ (b : Bool). b && flowsOn words (getD t 2 0) names (chop (left - 1) size (drop size t)) present) (not-false r yes′)
       ∙ still (getD t 2 0) names
 
   pub going-other : 0 < left → ¬ (getD t 0 0 ≡ kindRec) → whole ≡ flowsOn words taken before (chop (left - 1) size (take (length t - size) (drop size t))) present
   going-other some n = so-far ∙ flows-other words size left taken before t present some slots n ∙ still taken before
 
-  pub going-breaks : (r : Bool) → 0 < left → getD t 0 0 ≡ kindRec → r ≡ leftBegins taken before (take (slotHead + words + getD t 4 0 - (slotHead + words)) (drop (slotHead + words) t)) → r ≡ false → false ≡ whole
+  pub going-breaks : (r : Bool) → 0 < left → getD t 0 0 ≡ kindRec → r ≡ leftBegins taken before (take (slotHead + words + getD t 4 0 - (slotHead + words)) (drop (slotHead + words) t)) → not r ≡ true → false ≡ whole
   going-breaks r some k e no′ =
       let names = take (slotHead + words + getD t 4 0 - (slotHead + words)) (drop (slotHead + words) t) in
       sym (so-far ∙ flows-rec words size left taken before t present some slots names (getD t 2 0) r refl refl k e
-      ∙ ap (λ (b : Bool). b && flowsOn words (getD t 2 0) names (chop (left - 1) size (drop size t)) present) no′)
+      ∙ ap (λ (b : Bool). b && flowsOn words (getD t 2 0) names (chop (left - 1) size (drop size t)) present) (not-true r no′))
 
   pub going-ends : (r : Bool) → left ≤ 0 → r ≡ leftBegins taken before present → r ≡ whole
   unfolding chop flowsOn

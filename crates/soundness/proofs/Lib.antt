@@ -1,19 +1,9 @@
 -- The tests decide the clauses of soundness.
 pub mod FlowTest
-pub mod SoundTestWalk
-pub mod SoundTestShape
-pub mod SoundTestBirths
 pub mod MessageTest
-pub mod SoundTestRun
 pub mod FlowClause
-pub mod SoundTestClause
-pub mod Marks
-pub mod BlockViews
-pub mod Occurring
-pub mod BirthClause
 pub mod ArrivalMarks
 pub mod ArrivalClause
-pub mod SendTest
 pub mod StoreTest
 pub mod WholeLaws
 pub mod SlotsInUse

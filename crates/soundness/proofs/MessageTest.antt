@@ -1,16 +1,17 @@
 -- The test of messages that came: what the code answers for a name, a queue and the slots of a place.
 use Prim.Native.Nat.{ℕ, _+_, _-_, _*_, _/_, _%_, _≤_, _<_}
 use mathlib.Core.Path.{_≡_, sym, _∙_, ap}
-use mathlib.Core.Bool.{Bool, true, false}
+use mathlib.Core.Bool.{Bool, true, false, not}
 use mathlib.Core.Option.{Option}
 use mathlib.Core.List.{List}
 use native.Mathlib.Omega.{arith}
 use lib.ListN.{length, take, drop, getD, set}
-use Rattle.lists.proofs.Tests.{eqb-of, eqb-apart, ltb-of, ltb-over, cond-true, cond-false}
+use Rattle.lists.proofs.Tests.{eqb-of, eqb-apart, ltb-of, ltb-over, cond-true, cond-false, not-true, not-false}
 use Rattle.lists.proofs.Blocks.{block-in, chop}
 use Rattle.store.specs.Layout.{slotHead, nameBase, kindRec}
-use Rattle.soundness.specs.SoundTests.{namesIn, answered, andThen, arriveAt, arriveOne, arriveAll, arriveSlot, arriveTaken, arrivePlace, arriveFrom}
-use Rattle.soundness.proofs.SoundTestWalk.{chop-first, behind}
+use Rattle.slots.specs.SoundTests.{namesIn, answered, andThen}
+use Rattle.soundness.specs.MessageTests.{arriveAt, arriveOne, arriveAll, arriveSlot, arriveTaken, arrivePlace, arriveFrom}
+use Rattle.slots.proofs.SoundTestWalk.{chop-first, behind}
 
 -- where a sender's send of a count is noted
 pub name-in : (places entries sender count n : ℕ) → places * entries ≤ n → sender < places → count < entries → sender * entries + count < n
@@ -51,17 +52,17 @@ module _ (words size count places entries place : ℕ) (block targets : List ℕ
   queue-same : take (slotHead + words + getD block 4 0 - (slotHead + words)) (drop (slotHead + words) block) ≡ namesIn words block
   queue-same = let one : slotHead + words + getD block 4 0 - (slotHead + words) ≡ getD block 4 0 = omega arith in ap (λ (n : ℕ). take n (drop (slotHead + words) block)) one
 
-  pub place-arrives : (a r : Bool) (x y : List ℕ) → answered a x ≡ arriveAll places entries place (take (slotHead + words + getD block 4 0 - (slotHead + words)) (drop (slotHead + words) block)) targets → a ≡ true
+  pub place-arrives : (a r : Bool) (x y : List ℕ) → answered a x ≡ arriveAll places entries place (take (slotHead + words + getD block 4 0 - (slotHead + words)) (drop (slotHead + words) block)) targets → not a ≡ false
       → answered r y ≡ arriveTaken words size count places entries place block x → answered r y ≡ arrivePlace words size count places entries place block targets
   unfolding arrivePlace answered andThen
   place-arrives a r x y e t q =
-      q ∙ ap (λ (o : Option (List ℕ)). andThen o (arriveTaken words size count places entries place block)) (ap (λ (b : Bool). answered b x) (sym t) ∙ e ∙ ap (λ (l : List ℕ). arriveAll places entries place l targets) queue-same)
+      q ∙ ap (λ (o : Option (List ℕ)). andThen o (arriveTaken words size count places entries place block)) (ap (λ (b : Bool). answered b x) (sym (not-false a t)) ∙ e ∙ ap (λ (l : List ℕ). arriveAll places entries place l targets) queue-same)
 
-  pub place-arrives-not : (a : Bool) (x z : List ℕ) → answered a x ≡ arriveAll places entries place (take (slotHead + words + getD block 4 0 - (slotHead + words)) (drop (slotHead + words) block)) targets → a ≡ false
+  pub place-arrives-not : (a : Bool) (x z : List ℕ) → answered a x ≡ arriveAll places entries place (take (slotHead + words + getD block 4 0 - (slotHead + words)) (drop (slotHead + words) block)) targets → not a ≡ true
       → answered false z ≡ arrivePlace words size count places entries place block targets
   unfolding arrivePlace answered andThen
   place-arrives-not a x z e f =
-      ap (λ (o : Option (List ℕ)). andThen o (arriveTaken words size count places entries place block)) (ap (λ (b : Bool). answered b x) (sym f) ∙ e ∙ ap (λ (l : List ℕ). arriveAll places entries place l targets) queue-same)
+      ap (λ (o : Option (List ℕ)). andThen o (arriveTaken words size count places entries place block)) (ap (λ (b : Bool). answered b x) (sym (not-true a f)) ∙ e ∙ ap (λ (l : List ℕ). arriveAll places entries place l targets) queue-same)
 
 -- ---- over places
 
@@ -70,18 +71,18 @@ module _ (words size count places entries place len left : ℕ) (t x : List ℕ)
   unfolding arriveFrom
   here some′ = so-far ∙ ap (λ (bs : List (List ℕ)). arriveFrom words size count places entries place bs x) (chop-first left len t some′)
 
-  pub from-yes : (y : List ℕ) (r : Bool) → 0 < left → answered r y ≡ arrivePlace words size count places entries place (take len t) x → r ≡ true
+  pub from-yes : (y : List ℕ) (r : Bool) → 0 < left → answered r y ≡ arrivePlace words size count places entries place (take len t) x → not r ≡ false
       → whole ≡ arriveFrom words size count places entries (place + 1) (chop (left - 1) len (take (length t - len) (drop len t))) y
   unfolding answered andThen
   from-yes y r some′ e yes′ =
       here some′
-      ∙ ap (λ (o : Option (List ℕ)). andThen o (arriveFrom words size count places entries (place + 1) (chop (left - 1) len (drop len t)))) (sym e ∙ ap (λ (b : Bool). answered b y) yes′)
+      ∙ ap (λ (o : Option (List ℕ)). andThen o (arriveFrom words size count places entries (place + 1) (chop (left - 1) len (drop len t)))) (sym e ∙ ap (λ (b : Bool). answered b y) (not-false r yes′))
       ∙ ap (λ (l : List ℕ). arriveFrom words size count places entries (place + 1) (chop (left - 1) len l) y) (sym (behind len t))
 
-  pub from-no : (y z : List ℕ) (r : Bool) → 0 < left → answered r y ≡ arrivePlace words size count places entries place (take len t) x → r ≡ false → answered false z ≡ whole
+  pub from-no : (y z : List ℕ) (r : Bool) → 0 < left → answered r y ≡ arrivePlace words size count places entries place (take len t) x → not r ≡ true → answered false z ≡ whole
   unfolding answered andThen
   from-no y z r some′ e no′ =
-      sym (here some′ ∙ ap (λ (o : Option (List ℕ)). andThen o (arriveFrom words size count places entries (place + 1) (chop (left - 1) len (drop len t)))) (sym e ∙ ap (λ (b : Bool). answered b y) no′))
+      sym (here some′ ∙ ap (λ (o : Option (List ℕ)). andThen o (arriveFrom words size count places entries (place + 1) (chop (left - 1) len (drop len t)))) (sym e ∙ ap (λ (b : Bool). answered b y) (not-true r no′)))
 
   pub from-done : left ≤ 0 → answered true x ≡ whole
   unfolding answered chop arriveFrom

@@ -19,11 +19,12 @@ use Rattle.store.proofs.Reading.{Used, readSlot, leading, readBlock}
 use Rattle.store.proofs.SlotViews.{PresentShape}
 use Rattle.store.proofs.SoundSlots.{SlotFlows}
 use Rattle.store.proofs.SoundSlots
-use Rattle.soundness.specs.SoundTests.{namesIn, controlPasses, entryPasses, entriesPass, placePasses, placeFlows}
-use Rattle.soundness.specs.SendTests.{entrySlots}
-use Rattle.soundness.proofs.SoundTestClause.{EntryForm, form-decided, present-decided}
+use Rattle.slots.specs.SoundTests.{namesIn, controlPasses, entryPasses, entriesPass, placePasses}
+use Rattle.soundness.specs.MessageTests.{placeFlows}
+use Rattle.slots.specs.SendTests.{entrySlots}
+use Rattle.slots.proofs.SoundTestClause.{EntryForm, form-decided, present-decided}
 use Rattle.soundness.proofs.FlowClause.{flows-at-other, flows-decide}
-use Rattle.soundness.proofs.BlockViews.{read-free, read-used, names-read}
+use Rattle.slots.proofs.BlockViews.{read-free, read-used, names-read}
 use Rattle.soundness.proofs.StoreTest.{all-every, free-passes, used-shape, used-control, present-passed, control-passed, entries-passed}
 use Rattle.soundness.proofs.WholeLaws.{well-slots}
 use Rattle.soundness.proofs.SlotsInUse.{IsFree, in-use, used-all, all-used, turned-on}

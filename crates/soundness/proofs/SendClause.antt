@@ -22,10 +22,10 @@ use Rattle.store.proofs.Reading.{readSlot}
 use Rattle.store.proofs.Restoring.{sendKind, readSend}
 use Rattle.store.proofs.Histories.{sends-few}
 use Rattle.store.proofs.SlotSends.{Sends}
-use Rattle.soundness.specs.SoundTests.{kindWord, controlIn, andThen}
-use Rattle.soundness.specs.SendTests.{targetOf, sentTo, sentOf, noteNext, noteSlots, entrySlots, noteFrom}
-use Rattle.soundness.specs.declared.sound_sends.Sent.{Sent}
-use Rattle.soundness.specs.declared.sound_sends.Sent.the-variants.{No, To, Bad}
+use Rattle.slots.specs.SoundTests.{kindWord, controlIn, andThen}
+use Rattle.slots.specs.SendTests.{targetOf, sentTo, sentOf, noteNext, noteSlots, entrySlots, noteFrom}
+use Rattle.slots.specs.declared.sound_sends.Sent.{Sent}
+use Rattle.slots.specs.declared.sound_sends.Sent.the-variants.{No, To, Bad}
 use Rattle.soundness.proofs.ArrivalClause.{targetWord}
 use Rattle.soundness.proofs.SlotsInUse.{IsFree}
 

@@ -27,12 +27,13 @@ use Rattle.store.proofs.SlotSends.{Sends, by-count, by-slot}
 use Rattle.store.proofs.SoundSlots.{isLive, SlotFlows, SaidTo, SoundSlots}
 use Rattle.store.proofs.SoundSlots
 use Rattle.store.proofs.Births.{born-clauses, born-counted}
-use Rattle.soundness.specs.SoundTests.{placePasses, placeFlows, arriveFrom}
-use Rattle.soundness.specs.SendTests.{entrySlots, noteFrom}
+use Rattle.slots.specs.SoundTests.{placePasses}
+use Rattle.soundness.specs.MessageTests.{placeFlows, arriveFrom}
+use Rattle.slots.specs.SendTests.{entrySlots, noteFrom}
 use Rattle.soundness.specs.StoreTests.{liveIn, SlotsPass, blocksIn}
-use Rattle.soundness.proofs.SoundTestClause.{EntryForm, seq-form, send-form, rec-form, spawn-form, self-form, check-form}
-use Rattle.soundness.proofs.BlockViews.{block-long, block-well, place-read}
-use Rattle.soundness.proofs.BirthClause.{live-same, births-decided}
+use Rattle.slots.proofs.SoundTestClause.{EntryForm, seq-form, send-form, rec-form, spawn-form, self-form, check-form}
+use Rattle.slots.proofs.BlockViews.{block-long, block-well, place-read}
+use Rattle.slots.proofs.BirthClause.{live-same, births-decided}
 use Rattle.soundness.proofs.ArrivalClause.{targetWord, TargetTable, arrivals-decided}
 use Rattle.soundness.proofs.StoreTest.{every-all, all-every}
 use Rattle.soundness.proofs.WholeLaws.{all-at}

@@ -16,8 +16,8 @@ use Rattle.store.specs.Layout.{slotSize, slotCount, blockSize, kindFree, Slot, 
 use Rattle.store.specs.Formed.{WellSlots}
 use Rattle.store.proofs.Reading.{Used, readSlot, leading, readBlock}
 use Rattle.store.proofs.WellTestRead.{slots-block}
-use Rattle.soundness.specs.SendTests.{entrySlots}
-use Rattle.soundness.proofs.BlockViews.{read-free, read-used}
+use Rattle.slots.specs.SendTests.{entrySlots}
+use Rattle.slots.proofs.BlockViews.{read-free, read-used}
 use Rattle.soundness.proofs.WholeLaws.{well-whole}
 
 -- slots one behind the other, those before the first free one and the others

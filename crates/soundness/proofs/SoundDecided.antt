@@ -1,7 +1,7 @@
 -- The soundness test decides whether words begin with the image of a sound state.
 use Prim.Native.Nat.{ℕ, _+_, _-_, _≤_}
 use mathlib.Core.Path.{_≡_, sym, _∙_, ap}
-use mathlib.Core.Bool.{Bool, false}
+use mathlib.Core.Bool.{Bool, true, false, not}
 use mathlib.Core.Option.{none}
 use mathlib.Core.List.{List}
 use native.Mathlib.Omega.{arith}
@@ -9,15 +9,15 @@ use lib.ListN.{length, take, drop, getD, length-drop}
 use lib.Seq.{length-take-le}
 use Rattle.lists.specs.Decides.{Decides}
 use Rattle.lists.proofs.Decides.{no-to, refuted, by}
-use Rattle.lists.proofs.Tests.{none-not-some}
+use Rattle.lists.proofs.Tests.{none-not-some, not-true}
 use Rattle.term.specs.Module.{checkModule}
 use Rattle.term.specs.Control.{moduleArities}
-use Rattle.term.specs.Checking.{badOf, ReadFunctions}
-use Rattle.term.specs.declared.module.Checked.{Checked}
-use Rattle.term.specs.declared.module.Checked.the-variants.{Good, Bad}
-use Rattle.term.specs.declared.module.Functions.{Functions}
-use Rattle.term.specs.declared.module.Functions.the-variants.{Count, Fails}
-use Rattle.term.proofs.CheckLaws.{module-fails}
+use Rattle.checks.specs.Checking.{badOf, ReadFunctions}
+use Rattle.checks.specs.declared.module.Checked.{Checked}
+use Rattle.checks.specs.declared.module.Checked.the-variants.{Good, Bad}
+use Rattle.checks.specs.declared.module.Functions.{Functions}
+use Rattle.checks.specs.declared.module.Functions.the-variants.{Count, Fails}
+use Rattle.checks.proofs.CheckLaws.{module-fails}
 use Rattle.store.specs.Formed.{WellFormedStore}
 use Rattle.store.specs.Image.{IsImage}
 use Rattle.store.proofs.Reading.{readModule}
@@ -26,8 +26,8 @@ use Rattle.store.proofs.WellTestRead.{formed-tested, image-formed}
 use Rattle.soundness.specs.StoreTests.{StoreTested}
 use Rattle.soundness.proofs.SlotsDecided.{slots-sound, sound-slots}
 
-pub not-formed : (l : List ℕ) (r : Bool) → Decides (WellFormedStore l) r → r ≡ false → Decides (IsImage l) false
-not-formed l r d f = no-to (λ x. refuted d f (image-formed l x))
+pub not-formed : (l : List ℕ) (r : Bool) → Decides (WellFormedStore l) r → not r ≡ true → Decides (IsImage l) false
+not-formed l r d f = no-to (λ x. refuted d (not-true r f) (image-formed l x))
 
 module _ (l : List ℕ) (formed : WellFormedStore l) where
   -- the module, as it is lent

@@ -2,7 +2,7 @@
 use Prim.Native.Nat.{ℕ, _≤_, _<_}
 use mathlib.Core.Path.{_≡_, sym, _∙_, ap, subst}
 use mathlib.Core.Logic.{inl, inr}
-use mathlib.Core.Bool.{Bool, true, false, _&&_}
+use mathlib.Core.Bool.{Bool, true, false, not, _&&_}
 use mathlib.Core.Option.{none, some}
 use mathlib.Core.List.{List}
 use native.Mathlib.Omega.{arith}
@@ -12,16 +12,17 @@ use Rattle.lists.specs.Lists.{All}
 use Rattle.lists.specs.Decides.{Decides}
 use Rattle.lists.proofs.All.{all-so, all-both, all-any}
 use Rattle.lists.proofs.Decides.{no-to, refuted, by}
-use Rattle.lists.proofs.Tests.{eqb-true, eqb-false, eqb-of, eqb-apart, ltb-true, true-or-false, true-not-false, none-not-some, some-injective, and-left, and-right, cond-true, cond-false}
+use Rattle.lists.proofs.Tests.{eqb-true, eqb-false, eqb-of, eqb-apart, ltb-true, true-or-false, true-not-false, none-not-some, some-injective, and-left, and-right, cond-true, cond-false, not-true, not-false}
 use Rattle.term.specs.Module.{checkModule}
 use Rattle.term.specs.Control.{goodControl, moduleArities}
 use Rattle.store.specs.Layout.{kindFree, kindRec}
-use Rattle.soundness.specs.SoundTests.{controlIn, ControlBlock, TakenBlock, entrySlot, presentSlot, controlPasses, entryPasses, entriesPass, placePasses, everyOf, answered, Births, arriveFrom, placeFlows}
-use Rattle.soundness.specs.SendTests.{entrySlots, noteFrom, NotesPlaces}
+use Rattle.slots.specs.SoundTests.{controlIn, ControlBlock, entrySlot, presentSlot, controlPasses, entryPasses, entriesPass, placePasses, everyOf, answered, Births}
+use Rattle.soundness.specs.MessageTests.{TakenBlock, arriveFrom, placeFlows}
+use Rattle.slots.specs.SendTests.{entrySlots, noteFrom, NotesPlaces}
 use Rattle.soundness.specs.StoreTests.{WholeBlock, liveIn, MessagesPass, MessagesTested, SlotsTested}
-use Rattle.soundness.proofs.SoundTestShape.{entry-rec}
-use Rattle.soundness.proofs.SoundTestRun.{every-decided}
-use Rattle.soundness.proofs.SendTest.{BlockReady}
+use Rattle.slots.proofs.SoundTestShape.{entry-rec}
+use Rattle.slots.proofs.SoundTestRun.{every-decided}
+use Rattle.slots.proofs.SendTest.{BlockReady}
 use Rattle.step.proofs.Ready.{control-ready}
 
 -- ---- what passed
@@ -100,27 +101,27 @@ whole-controls words size count blocks x = all-so (λ b w. w .controls) blocks x
 -- ---- messages
 
 module _ (live : List Bool) (places entries words size : ℕ) (blocks : List (List ℕ)) (after : List ℕ) (r : Bool) (n : NotesPlaces live size entries blocks (replicate 1024 0) after r) where
-  pub messages-refused : r ≡ false → MessagesTested live places entries words size blocks false
+  pub messages-refused : not r ≡ true → MessagesTested live places entries words size blocks false
   unfolding answered
-  messages-refused f = record { decided = λ module′ ready. no-to (λ m. none-not-some (ap (λ (b : Bool). answered b after) (sym f) ∙ n .same module′ ready ∙ m .noted)) }
+  messages-refused f = record { decided = λ module′ ready. no-to (λ m. none-not-some (ap (λ (b : Bool). answered b after) (sym (not-true r f)) ∙ n .same module′ ready ∙ m .noted)) }
 
-  module _ (t : r ≡ true) (last : List ℕ) (q : Bool) (a : answered q last ≡ arriveFrom words size entries places entries 0 blocks after) where
+  module _ (t : not r ≡ false) (last : List ℕ) (q : Bool) (a : answered q last ≡ arriveFrom words size entries places entries 0 blocks after) where
     noted-as : (module′ : List ℕ) → All (BlockReady module′ size entries) blocks → noteFrom module′ live size entries 0 blocks (replicate 1024 0) ≡ some after
     unfolding answered
-    noted-as module′ ready = sym (n .same module′ ready) ∙ ap (λ (b : Bool). answered b after) t
+    noted-as module′ ready = sym (n .same module′ ready) ∙ ap (λ (b : Bool). answered b after) (not-false r t)
 
     came-as : (module′ : List ℕ) → All (BlockReady module′ size entries) blocks → (m : MessagesPass module′ live places entries words size blocks) → answered q last ≡ some (m .left)
     came-as module′ ready m = a ∙ ap (arriveFrom words size entries places entries 0 blocks) (some-injective (sym (noted-as module′ ready) ∙ m .noted)) ∙ m .came
 
-    pub messages-lost : q ≡ false → MessagesTested live places entries words size blocks false
+    pub messages-lost : not q ≡ true → MessagesTested live places entries words size blocks false
     unfolding answered
-    messages-lost f = record { decided = λ module′ ready. no-to (λ m. none-not-some (ap (λ (b : Bool). answered b last) (sym f) ∙ came-as module′ ready m)) }
+    messages-lost f = record { decided = λ module′ ready. no-to (λ m. none-not-some (ap (λ (b : Bool). answered b last) (sym (not-true q f)) ∙ came-as module′ ready m)) }
 
-    pub messages-flow : q ≡ true → (f : Bool) → f ≡ everyOf (placeFlows words size entries) blocks → MessagesTested live places entries words size blocks f
+    pub messages-flow : not q ≡ false → (f : Bool) → f ≡ everyOf (placeFlows words size entries) blocks → MessagesTested live places entries words size blocks f
     unfolding answered
     messages-flow e f s = record {
       decided = λ module′ ready. record {
-        sound = λ g. record { targets = after; noted = noted-as module′ ready; left = last; came = sym a ∙ ap (λ (b : Bool). answered b last) e; flow = sym s ∙ g };
+        sound = λ g. record { targets = after; noted = noted-as module′ ready; left = last; came = sym a ∙ ap (λ (b : Bool). answered b last) (not-false q e); flow = sym s ∙ g };
         complete = λ m. s ∙ m .flow;
       };
     }
@@ -131,25 +132,25 @@ module _ (places entries words size : ℕ) (arities : List ℕ) (blocks : List (
   shapes : (module′ : List ℕ) → arities ≡ moduleArities module′ → everyOf (placePasses size entries places (moduleArities module′)) blocks ≡ r
   shapes module′ same = ap (λ (a : List ℕ). everyOf (placePasses size entries places a) blocks) (sym same) ∙ sym e
 
-  pub slots-shapeless : r ≡ false → SlotsTested places entries words size arities blocks false
-  slots-shapeless f = record { decided = λ module′ good same. no-to (λ x. true-not-false (sym (shapes module′ same) ∙ x .shapes-pass) f) }
+  pub slots-shapeless : not r ≡ true → SlotsTested places entries words size arities blocks false
+  slots-shapeless f = record { decided = λ module′ good same. no-to (λ x. true-not-false (sym (shapes module′ same) ∙ x .shapes-pass) (not-true r f)) }
 
-  module _ (t : r ≡ true) (live : List Bool) (l : live ≡ liveIn blocks) where
-    pub slots-no-first : getD live 0 false ≡ false → SlotsTested places entries words size arities blocks false
-    slots-no-first f = record { decided = λ module′ good same. no-to (λ x. true-not-false (ap (λ (v : List Bool). getD v 0 false) l ∙ x .first-live) f) }
+  module _ (t : not r ≡ false) (live : List Bool) (l : live ≡ liveIn blocks) where
+    pub slots-no-first : not (getD live 0 false) ≡ true → SlotsTested places entries words size arities blocks false
+    slots-no-first f = record { decided = λ module′ good same. no-to (λ x. true-not-false (ap (λ (v : List Bool). getD v 0 false) l ∙ x .first-live) (not-true (getD live 0 false) f)) }
 
-    pub slots-unborn : (b : Bool) → Decides (Births size entries live blocks) b → b ≡ false → SlotsTested places entries words size arities blocks false
-    slots-unborn b d f = record { decided = λ module′ good same. no-to (λ x. refuted d f (subst (λ (v : List Bool). Births size entries v blocks) (sym l) (x .births-pass))) }
+    pub slots-unborn : (b : Bool) → Decides (Births size entries live blocks) b → not b ≡ true → SlotsTested places entries words size arities blocks false
+    slots-unborn b d f = record { decided = λ module′ good same. no-to (λ x. refuted d (not-true b f) (subst (λ (v : List Bool). Births size entries v blocks) (sym l) (x .births-pass))) }
 
-    pub slots-messages : getD live 0 false ≡ true → (b : Bool) → Decides (Births size entries live blocks) b → b ≡ true → All (WholeBlock words size entries) blocks → places ≤ 16
+    pub slots-messages : not (getD live 0 false) ≡ false → (b : Bool) → Decides (Births size entries live blocks) b → not b ≡ false → All (WholeBlock words size entries) blocks → places ≤ 16
         → (m : Bool) → MessagesTested live places entries words size blocks m → SlotsTested places entries words size arities blocks m
     slots-messages f b d g whole few m y = record {
       decided = λ module′ good same.
           by (λ x. record {
-            shapes-pass = shapes module′ same ∙ t;
-            first-live = ap (λ (v : List Bool). getD v 0 false) (sym l) ∙ f;
-            births-pass = subst (λ (v : List Bool). Births size entries v blocks) l (d .sound g);
+            shapes-pass = shapes module′ same ∙ not-false r t;
+            first-live = ap (λ (v : List Bool). getD v 0 false) (sym l) ∙ not-false (getD live 0 false) f;
+            births-pass = subst (λ (v : List Bool). Births size entries v blocks) l (d .sound (not-false b g));
             messages-pass = subst (λ (v : List Bool). MessagesPass module′ v places entries words size blocks) l x;
           }) (λ x. subst (λ (v : List Bool). MessagesPass module′ v places entries words size blocks) (sym l) (x .messages-pass))
-          (y .decided module′ (blocks-ready words size entries places arities blocks whole r e t module′ good (omega arith) same));
+          (y .decided module′ (blocks-ready words size entries places arities blocks whole r e (not-false r t) module′ good (omega arith) same));
     }

@@ -18,11 +18,11 @@ use Rattle.store.proofs.SoundStates.{sizes-in}
 use Rattle.store.proofs.LayoutLaws.{slot-most}
 use Rattle.store.proofs.WellTestBlock.{free-slots}
 use Rattle.store.proofs.WellTestRead.{slots-block}
-use Rattle.soundness.specs.SoundTests.{kindWord, NamesFit, ControlFits}
-use Rattle.soundness.specs.SendTests.{entrySlots}
+use Rattle.slots.specs.SoundTests.{kindWord, NamesFit, ControlFits}
+use Rattle.slots.specs.SendTests.{entrySlots}
 use Rattle.soundness.specs.StoreTests.{WholeBlock, blocksIn, SlotsTested, StoreTested}
-use Rattle.soundness.proofs.SoundTestWalk.{below-take}
-use Rattle.soundness.proofs.BlockViews.{block-long, block-well}
+use Rattle.slots.proofs.SoundTestWalk.{below-take}
+use Rattle.slots.proofs.BlockViews.{block-long, block-well}
 
 -- what holds at each place of a list holds of all its elements
 pub all-at : {A : Type 0} (P : A → Type 0) (d : A) (xs : List A) → ((i : ℕ) → i < length xs → P (getD xs i d)) → All P xs

@@ -1,4 +1,3 @@
--- The tests of soundness, part by part.
-pub mod SoundTests
-pub mod SendTests
+-- The tests of messages that came and of flows, and the whole test.
+pub mod MessageTests
 pub mod StoreTests

@@ -1,4 +1,4 @@
--- What the whole soundness test answers, put together from its parts. Assumes nothing: these are definitions.
+-- What the whole soundness test answers, put together from its parts.
 use Prim.Native.Nat.{ℕ, _*_}
 use mathlib.Core.Path.{_≡_}
 use mathlib.Core.Bool.{Bool, true, false}
@@ -12,8 +12,9 @@ use Rattle.term.specs.Module.{checkModule}
 use Rattle.term.specs.Control.{moduleArities}
 use Rattle.store.specs.Layout.{blocksFrom, slotSize, blockSize, mostPlaces, mostNames, kindFree}
 use Rattle.store.specs.Formed.{sizesIn}
-use Rattle.soundness.specs.SoundTests.{kindWord, Block, ControlBlock, everyOf, placePasses, liveFrom, Births, arriveFrom, placeFlows}
-use Rattle.soundness.specs.SendTests.{SendReady, entrySlots, noteFrom}
+use Rattle.slots.specs.SoundTests.{kindWord, Block, ControlBlock, everyOf, placePasses, liveFrom, Births}
+use Rattle.soundness.specs.MessageTests.{arriveFrom, placeFlows}
+use Rattle.slots.specs.SendTests.{SendReady, entrySlots, noteFrom}
 
 -- a block with its names and controls; where the first slot is free, all are
 pub record WholeBlock (words size count : ℕ) (b : List ℕ) : Type 0 where

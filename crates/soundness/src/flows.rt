@@ -1,12 +1,17 @@
 // Flows: what a rec left is a prefix of the queue before the next rec, or of the present one.
+use slots::blocks::Sizes;
 use store::layout::REC;
 use store::layout::SLOT_HEAD;
+use store::layout::SLOT_KIND;
+use store::layout::SLOT_NUMBER;
+use store::layout::SLOT_QUEUE;
 ghost use mathlib.Core.Path.{_≡_};
 ghost use mathlib.Core.List.{[]};
 ghost use Prim.Native.Nat.{_≤_, _*_};
 ghost use lib.ListN.{length, drop};
 ghost use Rattle.lists.specs.Lists.{All, chop};
-ghost use Rattle.soundness.specs.SoundTests.{NamesFit, Slots, Block, namesIn, begins as beginsWith, leftBegins, flowsOn, everyOf, placeFlows};
+ghost use Rattle.slots.specs.SoundTests.{NamesFit, Slots, Block, namesIn, everyOf};
+ghost use Rattle.soundness.specs.MessageTests.{begins as beginsWith, leftBegins, flowsOn, placeFlows};
 
 // Whether a list of words begins with another.
 fn begins(front: &[u32], whole: &[u32]) -> bool
@@ -25,67 +30,64 @@ fn begins(front: &[u32], whole: &[u32]) -> bool
     true
 }
 
-// Whether a queue without the message at a place is a prefix of another.
+// Whether a queue without the message at a place is a prefix of another; before the first rec the queue is empty.
 fn left_begins(before: &[u32], taken: usize, after: &[u32]) -> bool
     ensures { λ r. ⌜ r ≡ leftBegins taken (now (before .entry)) (now (after .entry)) ⌝ }
 {
     if before.len() <= taken {
         return begins(before, after);
     }
-    if begins(&before[..taken], after) {
-        begins(&before[taken + 1..], &after[taken..])
-    } else {
-        false
+    if !begins(&before[..taken], after) {
+        return false;
     }
+    begins(&before[taken + 1..], &after[taken..])
 }
 
 // The recs among the entries of a place, oldest first, and the present queue after them.
-fn place_flows(block: &[u32], count: usize, size: usize, words: usize) -> bool
-    requires { ⌜ NamesFit words (now block) × (size ≤ length (now block)) × Slots words size count (drop size (now block)) ⌝ }
-    ensures { λ r. ⌜ r ≡ flowsOn words 0 [] (chop count size (drop size (now (block .entry)))) (namesIn words (now (block .entry))) ⌝ }
+fn place_flows(block: &[u32], sizes: Sizes) -> bool
+    requires { ⌜ NamesFit (sizes .words) (now block) × (sizes .slot ≤ length (now block)) × Slots (sizes .words) (sizes .slot) (sizes .entries) (drop (sizes .slot) (now block)) ⌝ }
+    ensures { λ r. ⌜ r ≡ flowsOn (sizes .words) 0 [] (chop (sizes .entries) (sizes .slot) (drop (sizes .slot) (now (block .entry)))) (namesIn (sizes .words) (now (block .entry))) ⌝ }
 {
+    let size = sizes.slot;
+    let words = sizes.words;
     let from = SLOT_HEAD + words;
     let mut before = &block[0..0];
     let mut taken = 0;
     let mut t = &block[size..];
-    let mut left = count;
+    let mut left = sizes.entries;
     while 0 < left {
-        if t[0] == REC {
-            let names = &t[from..from + t[4] as usize];
-            if left_begins(before, taken, names) {
-                before = names;
-                taken = t[2] as usize;
-            } else {
+        if t[SLOT_KIND] == REC {
+            let names = &t[from..from + t[SLOT_QUEUE] as usize];
+            if !left_begins(before, taken, names) {
                 return false;
             }
+            before = names;
+            taken = t[SLOT_NUMBER] as usize;
         }
         t = &t[size..];
         left -= 1;
     }
-    left_begins(before, taken, &block[from..from + block[4] as usize])
+    left_begins(
+        before,
+        taken,
+        &block[from..from + block[SLOT_QUEUE] as usize],
+    )
 }
 
 // The flows of all places.
-pub fn flows(
-    blocks: &[u32],
-    places: usize,
-    len: usize,
-    count: usize,
-    size: usize,
-    words: usize,
-) -> bool
-    requires { ⌜ (length (now blocks) ≡ places * len) × All (Block words size count) (chop places len (now blocks)) ⌝ }
-    ensures { λ r. ⌜ r ≡ everyOf (placeFlows words size count) (chop places len (now (blocks .entry))) ⌝ }
+pub fn flows(blocks: &[u32], sizes: Sizes) -> bool
+    requires { ⌜ (length (now blocks) ≡ sizes .places * sizes .block) × All (Block (sizes .words) (sizes .slot) (sizes .entries)) (chop (sizes .places) (sizes .block) (now blocks)) ⌝ }
+    ensures { λ r. ⌜ r ≡ everyOf (placeFlows (sizes .words) (sizes .slot) (sizes .entries)) (chop (sizes .places) (sizes .block) (now (blocks .entry))) ⌝ }
 {
+    let len = sizes.block;
     let mut t = blocks;
-    let mut left = places;
+    let mut left = sizes.places;
     while 0 < left {
-        if place_flows(&t[..len], count, size, words) {
-            t = &t[len..];
-            left -= 1;
-        } else {
+        if !place_flows(&t[..len], sizes) {
             return false;
         }
+        t = &t[len..];
+        left -= 1;
     }
     true
 }

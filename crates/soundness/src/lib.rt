@@ -2,6 +2,3 @@
 pub mod flows;
 pub mod messages;
 pub mod sound;
-pub mod sound_births;
-pub mod sound_sends;
-pub mod sound_shape;

@@ -1,15 +1,4 @@
 -- Rows of words, and the terms that they stand for.
-pub mod RowInteger
-pub mod RowTerms
-pub mod RowPlace
-pub mod RowSame
-pub mod RowWrite
-pub mod RowMatch
-pub mod RowCopy
-pub mod RowOperand
-pub mod RowGuard
-pub mod RowClause
-pub mod RowNext
 pub mod RowStep
 pub mod RowSplit
 pub mod RowWork

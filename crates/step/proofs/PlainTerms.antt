@@ -8,7 +8,7 @@ use Rattle.term.specs.Table.{table, rowOf, kLimit}
 use Rattle.term.specs.Tree.{Term, Terms, int, node, end, _then_, Whole}
 use Rattle.machine.proofs.Sits.{spotsUnder, Sits, SitAll}
 use Rattle.machine.proofs.FitLaws.{sits-head}
-use Rattle.step.specs.Rows.{Plain, PlainAll}
+use Rattle.row_laws.specs.Rows.{Plain, PlainAll}
 
 -- atoms, pids, nils and variables have no children
 leaf-row : (tag : ℕ) → tag < tagCons → rowOf tag .greatest ≡ 0

@@ -26,8 +26,8 @@ use Rattle.machine.proofs.Right.{Right}
 use Rattle.machine.proofs.PlaceLaws.{Ready}
 use Rattle.machine.proofs.ModuleLaws.{GoodModule, named-there}
 use Rattle.machine.proofs.StepLaws.{ready-head, names-of}
-use Rattle.step.specs.Guards.{IsGuard, AreGuards}
-use Rattle.step.specs.Clausal.{ClauseIs, AreClauses}
+use Rattle.operands.specs.Guards.{IsGuard, AreGuards}
+use Rattle.choosing.specs.Clausal.{ClauseIs, AreClauses}
 use Rattle.step.specs.Controls.{Pair, Applied, Redex}
 
 -- ---- guards and clauses

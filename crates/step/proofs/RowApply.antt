@@ -15,15 +15,14 @@ use Rattle.term.specs.Module.{functionOf}
 use Rattle.term.proofs.PlaceLaws.{function-stands}
 use Rattle.machine.specs.Match.{unbound}
 use Rattle.machine.specs.Bind.{bind, parameters}
-use Rattle.step.specs.Rows.{Stands, Plain, PlainAll, Bound}
-use Rattle.step.specs.Nexts.{Puts, PutsCopy}
+use Rattle.row_laws.specs.Rows.{Stands, Plain, PlainAll, Bound}
+use Rattle.copying.specs.Nexts.{Puts, PutsCopy}
 use Rattle.step.specs.Steps.{fittedOf, ParametersAt, ModuleIs, ApplyNext}
 use Rattle.step.specs.declared.step.Next.{Next}
 use Rattle.step.specs.declared.step.Next.the-variants.{Nothing}
-use Rattle.step.proofs.RowTerms.{some-words, plain-all-whole}
-use Rattle.step.proofs.RowMatch.{bound-more}
-use Rattle.step.proofs.RowWrite.{stands-within}
-use Rattle.step.proofs.RowClause.{nothing-bound}
+use Rattle.row_laws.proofs.RowTerms.{some-words, plain-all-whole, stands-within}
+use Rattle.copying.proofs.RowMatch.{bound-more}
+use Rattle.choosing.proofs.RowClause.{nothing-bound, sixty-four}
 use Rattle.step.proofs.RowStep.{children-at, first-stands, others-plain, others-on, wrote-next, next-some}
 
 module _ (c : List ℕ) (at m x : ℕ) (env : List ℕ) where
@@ -66,9 +65,6 @@ body-stands module′ functions k tag m j body i e start es =
       rest = wordsOf (rest (suc k) functions);
       here = ap (λ (a : ℕ). drop a module′) es ∙ function-stands functions module′ k (node tag m j (body then end)) (plain-all-whole functions (i .plain)) (i .same-words) e;
     }
-
-sixty-four : length (replicate {A = ℕ} 64 0) ≡ 64
-sixty-four = refl
 
 module _ (module′ c : List ℕ) (at : ℕ) (old : List ℕ) where
   pub apply-past : length c ≤ at → ApplyNext module′ c at old old Nothing

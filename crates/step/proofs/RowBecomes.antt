@@ -14,14 +14,16 @@ use Rattle.term.specs.Value.{isValue}
 use Rattle.machine.specs.Clauses.{firstClause}
 use Rattle.machine.specs.Place.{working}
 use Rattle.machine.specs.Work.{toReceive, next, nextSome}
-use Rattle.step.specs.Rows.{Stands, placeOf, Finds, Wrote}
-use Rattle.step.specs.Nexts.{rowWith, Puts}
+use Rattle.row_laws.specs.Rows.{Stands}
+use Rattle.copying.specs.Places.{placeOf, Finds}
+use Rattle.copying.specs.Copies.{Wrote}
+use Rattle.copying.specs.Nexts.{rowWith, Puts}
 use Rattle.step.specs.Steps.{fittedOf, WroteNext, NextIs, ReceiveNext}
 use Rattle.step.specs.Controls.{ControlIs}
 use Rattle.step.specs.Becomes.{ValueIs, RowIs, BecomesWord, Receives}
 use Rattle.step.specs.declared.step.Next.{Next}
 use Rattle.step.specs.declared.step.Next.the-variants.{Nothing}
-use Rattle.step.proofs.RowWrite.{stands-within}
+use Rattle.row_laws.proofs.RowTerms.{stands-within}
 use Rattle.step.proofs.RowStep.{wrote-next}
 use Rattle.step.proofs.RowSplit.{working-stands, row-replaced}
 use Rattle.step.proofs.RowWork.{found-place}

@@ -11,13 +11,15 @@ use Rattle.term.specs.Tree.{Term, Terms, node, words, wordsOf}
 use Rattle.term.specs.Read.{termsOf}
 use Rattle.machine.specs.Place.{working}
 use Rattle.machine.specs.Work.{toSpawn, work}
-use Rattle.step.specs.Rows.{Stands, Finds, Wrote}
+use Rattle.row_laws.specs.Rows.{Stands}
+use Rattle.copying.specs.Places.{Finds}
+use Rattle.copying.specs.Copies.{Wrote}
 use Rattle.step.specs.Steps.{fittedOf}
 use Rattle.step.specs.Controls.{ControlIs}
 use Rattle.step.specs.Becomes.{ChildNext}
 use Rattle.step.specs.declared.step.Next.{Next}
-use Rattle.step.proofs.RowTerms.{one-skip, skip-within, plain-whole}
-use Rattle.step.proofs.RowWrite.{stands-within, wrote-then}
+use Rattle.row_laws.proofs.RowTerms.{one-skip, skip-within, plain-whole, stands-within}
+use Rattle.copying.proofs.RowWrite.{wrote-then}
 use Rattle.step.proofs.RowStep.{children-at, wrote-next}
 use Rattle.step.proofs.RowTags.{Comes, comes}
 use Rattle.step.proofs.RowBecomes.{stands-there}

@@ -15,16 +15,17 @@ use Rattle.machine.specs.Match.{unbound}
 use Rattle.machine.specs.Bind.{bind, bindAll}
 use Rattle.machine.specs.Place.{working}
 use Rattle.machine.specs.Work.{toSend, next, work}
-use Rattle.step.specs.Rows.{Stands, Finds, Wrote}
-use Rattle.step.specs.Nexts.{rowWith, Puts, PutsCopy}
+use Rattle.row_laws.specs.Rows.{Stands}
+use Rattle.copying.specs.Places.{Finds}
+use Rattle.copying.specs.Copies.{Wrote}
+use Rattle.copying.specs.Nexts.{rowWith, Puts, PutsCopy}
 use Rattle.step.specs.Steps.{fittedOf}
 use Rattle.step.specs.Controls.{ControlIs}
 use Rattle.step.specs.Becomes.{Sent, SendNext}
 use Rattle.step.specs.declared.control.Extent.{Extent}
 use Rattle.step.specs.declared.step.Next.{Next}
-use Rattle.step.proofs.RowTerms.{one-skip, plain-whole}
-use Rattle.step.proofs.RowWrite.{stands-within}
-use Rattle.step.proofs.RowClause.{nothing-bound}
+use Rattle.row_laws.proofs.RowTerms.{one-skip, plain-whole, stands-within}
+use Rattle.choosing.proofs.RowClause.{nothing-bound}
 use Rattle.step.proofs.RowStep.{children-at, first-stands, others-plain, others-on, wrote-next}
 use Rattle.step.proofs.RowTags.{Comes, comes}
 use Rattle.step.proofs.RowBecomes.{stands-there, row-is}

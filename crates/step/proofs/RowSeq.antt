@@ -20,14 +20,15 @@ use Rattle.machine.specs.Bind.{bind, parameters}
 use Rattle.machine.specs.Clauses.{firstClause}
 use Rattle.machine.specs.Place.{working}
 use Rattle.machine.specs.Work.{Work, finished, stuck, toSend, next, nextSome, seqOr, letGives, sendTo, sendWork, workAt, work}
-use Rattle.step.specs.Rows.{Stands, Finds}
-use Rattle.step.specs.Nexts.{rowWith}
+use Rattle.row_laws.specs.Rows.{Stands}
+use Rattle.copying.specs.Places.{Finds}
+use Rattle.copying.specs.Nexts.{rowWith}
 use Rattle.step.specs.Steps.{NextIs, CallNext, CaseNext, LetNext, ApplyNext}
 use Rattle.step.specs.Controls.{Pair, Redex, ControlIs}
 use Rattle.step.specs.Becomes.{RowIs, SeqIs, SeqNext}
 use Rattle.step.specs.declared.step.Next.{Next}
 use Rattle.step.specs.declared.step.Next.the-variants.{Nothing}
-use Rattle.step.proofs.RowWrite.{stands-within}
+use Rattle.row_laws.proofs.RowTerms.{stands-within}
 use Rattle.step.proofs.RowWork.{work-reads, work-not, work-value, work-call, work-apply, work-case, work-let, operate-two, case-two, apply-gives, tag-of}
 use Rattle.step.proofs.RowBecomes.{stands-there, row-is, as-row-is}
 

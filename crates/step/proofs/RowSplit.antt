@@ -14,8 +14,9 @@ use Rattle.term.specs.Tree.{Term, Terms, int, node, end, _then_, words, wordsOf
 use Rattle.term.specs.Value.{isValue}
 use Rattle.machine.specs.Place.{entered, working, workingIn, ready, replaced, replacedIn}
 use Rattle.machine.proofs.PlaceLaws.{working-past, working-into, ready-past, ready-into, replaced-past, replaced-into, replaced-whole, replaced-part}
-use Rattle.step.specs.Rows.{Stands, Plain, PlainAll, placeOf, placeAmong}
-use Rattle.step.specs.Nexts.{rowWith}
+use Rattle.row_laws.specs.Rows.{Stands, Plain, PlainAll}
+use Rattle.copying.specs.Places.{placeOf, placeAmong}
+use Rattle.copying.specs.Nexts.{rowWith}
 
 -- ---- the definitions, by their tests
 place-past : (t : Term) (ts : Terms) (m here at : ℕ) → isValue t ≡ true → placeAmong (t then ts) (suc m) here at ≡ placeAmong ts m here (at + length (words t))

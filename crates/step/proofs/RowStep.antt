@@ -24,22 +24,23 @@ use Rattle.machine.specs.Match.{Bindings, unbound, with, match}
 use Rattle.machine.specs.Bind.{bind}
 use Rattle.machine.specs.Guard.{operateSome, beforeSome, guardHolds}
 use Rattle.machine.specs.Clauses.{firstClause}
-use Rattle.step.specs.Rows.{Stands, Plain, PlainAll, Bound, Matched, Matches, Wrote}
-use Rattle.step.specs.Operands.{isLong, LongIs, Gives, operateBoth, Operates, StandsHere}
-use Rattle.step.specs.Clausal.{AreClauses, Takes, ChosenIs, ChoosesAt}
-use Rattle.step.specs.Nexts.{rowWith, Puts, PutsCopy}
+use Rattle.row_laws.specs.Rows.{Stands, Plain, PlainAll, Bound}
+use Rattle.copying.specs.Matching.{Matched, Matches}
+use Rattle.copying.specs.Copies.{Wrote}
+use Rattle.operands.specs.Operands.{isLong, LongIs, Gives, operateBoth, Operates, StandsHere}
+use Rattle.choosing.specs.Clausal.{AreClauses, Takes, ChosenIs, ChoosesAt}
+use Rattle.copying.specs.Nexts.{rowWith, Puts, PutsCopy}
 use Rattle.step.specs.Steps.{fittedOf, WroteNext, NextIs, CalledAt, CallNext, CasedAt, ClauseNext, CaseNext, LetNext, ReceiveNext}
-use Rattle.step.specs.declared.operand.Operand.{Operand}
-use Rattle.step.specs.declared.operand.Operand.the-variants.{Short, Here, There, Stuck}
-use Rattle.step.specs.declared.clause.Chosen.{Chosen}
-use Rattle.step.specs.declared.clause.Chosen.the-variants.{Clause, Nothing}
+use Rattle.operands.specs.declared.operand.Operand.{Operand}
+use Rattle.operands.specs.declared.operand.Operand.the-variants.{Short, Here, There, Stuck}
+use Rattle.choosing.specs.declared.clause.Chosen.{Chosen}
+use Rattle.choosing.specs.declared.clause.Chosen.the-variants.{Clause, Nothing}
 use Rattle.step.specs.declared.step.Next.{Next}
 use Rattle.step.specs.declared.step.Next.the-variants.{Nothing as noNext, TooLarge, Row}
-use Rattle.step.proofs.RowTerms.{node-at, one-skip, past-term, plain-whole}
-use Rattle.step.proofs.RowMatch.{bound-more}
-use Rattle.step.proofs.RowWrite.{stands-within}
-use Rattle.step.proofs.RowOperand.{as-row, one-term, short-is-node, short-is-integer, gives-short, gives-here, gives-there, gives-stuck}
-use Rattle.step.proofs.RowClause.{parts-at, nothing-bound, takes-is, whenHolds, bodyUnder, matched-one}
+use Rattle.row_laws.proofs.RowTerms.{node-at, one-skip, past-term, plain-whole, stands-within, as-row, one-term}
+use Rattle.copying.proofs.RowMatch.{bound-more}
+use Rattle.operands.proofs.RowOperand.{short-is-node, short-is-integer, gives-short, gives-here, gives-there, gives-stuck}
+use Rattle.choosing.proofs.RowClause.{parts-at, nothing-bound, takes-is, whenHolds, bodyUnder, matched-one}
 
 -- ---- whether a row fits
 pub fitted-row : (r room : ℕ) → r ≤ room → Row r ≡ fittedOf r room

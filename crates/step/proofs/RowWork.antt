@@ -19,18 +19,18 @@ use Rattle.machine.specs.Bind.{bind, parameters}
 use Rattle.machine.specs.Clauses.{firstClause}
 use Rattle.machine.specs.Place.{working}
 use Rattle.machine.specs.Work.{Work, finished, stuck, toSend, next, seqOr, bodyWith, caseGives, letGives, sendTo, sendWork, workAt, workOf, work}
-use Rattle.step.specs.Rows.{Stands, Plain, placeOf, placeAmong, Finds}
+use Rattle.row_laws.specs.Rows.{Stands, Plain}
+use Rattle.copying.specs.Places.{placeOf, placeAmong, Finds}
 use Rattle.step.specs.Steps.{CalledAt, CasedAt}
 use Rattle.step.specs.Controls.{Pair, Applied, Redex, doingOf, doingSeq, CallDoing, CaseDoing, SendDoing, DoingAt, DoingOf}
-use Rattle.step.specs.declared.operand.Operand.{Operand}
-use Rattle.step.specs.declared.operand.Operand.the-variants.{Short, Here, There, Stuck as noOperand}
-use Rattle.step.specs.declared.clause.Chosen.{Chosen}
-use Rattle.step.specs.declared.clause.Chosen.the-variants.{Clause, Nothing}
+use Rattle.operands.specs.declared.operand.Operand.{Operand}
+use Rattle.operands.specs.declared.operand.Operand.the-variants.{Short, Here, There, Stuck as noOperand}
+use Rattle.choosing.specs.declared.clause.Chosen.{Chosen}
+use Rattle.choosing.specs.declared.clause.Chosen.the-variants.{Clause, Nothing}
 use Rattle.step.specs.declared.work.Doing.{Doing}
 use Rattle.step.specs.declared.work.Doing.the-variants.{Finished, Stuck, Seq, Send, Receive, Spawn, Own, Check}
-use Rattle.step.proofs.RowTerms.{node-at, integer-at, plain-whole}
-use Rattle.step.proofs.RowWrite.{stands-within}
-use Rattle.step.proofs.RowOperand.{as-row, one-term, head-of, gives-short, gives-here, gives-there, gives-stuck}
+use Rattle.row_laws.proofs.RowTerms.{node-at, integer-at, plain-whole, stands-within, as-row, one-term, head-of}
+use Rattle.operands.proofs.RowOperand.{gives-short, gives-here, gives-there, gives-stuck}
 use Rattle.step.proofs.RowStep.{children-at, first-stands, chosen-clause, chosen-nothing}
 use Rattle.step.proofs.RowSplit.{working-stands}
 

@@ -1,4 +1,4 @@
--- What the functions that write the next control promise, in the words of `work`. Assumes nothing: these are definitions.
+-- What the functions that write the next control promise, in the words of `work`.
 use Prim.Native.Nat.{ℕ, _-_}
 use mathlib.Core.Path.{_≡_}
 use mathlib.Core.Bool.{true, false}
@@ -9,7 +9,7 @@ use Rattle.term.specs.Tree.{Term, Terms, words}
 use Rattle.term.specs.Read.{termOf, termsOf}
 use Rattle.term.specs.Value.{isValue}
 use Rattle.machine.specs.Work.{Work, finished, stuck, toSeq, toSend, toReceive, toSpawn, toSelf, toCheck, work, next}
-use Rattle.step.specs.Rows.{Plain}
+use Rattle.row_laws.specs.Rows.{Plain}
 use Rattle.step.specs.Steps.{WroteNext, ModuleIs}
 use Rattle.step.specs.Controls.{ControlIs}
 use Rattle.step.specs.declared.control.Extent.{Extent}

@@ -1,5 +1,5 @@
 -- What the control check says of a control and of the term at its working place, and what the functions on controls promise.
--- Assumes nothing: these are definitions.
+--
 use Prim.Native.Nat.{ℕ, _≤_, _<_}
 use mathlib.Core.Path.{_≡_}
 use mathlib.Core.Bool.{true, false}
@@ -14,8 +14,8 @@ use Rattle.machine.specs.Operator.{operate}
 use Rattle.machine.specs.Clauses.{firstClause}
 use Rattle.machine.specs.Place.{working}
 use Rattle.machine.specs.Work.{Work, finished, stuck, toSeq, toSend, toReceive, toSpawn, toSelf, toCheck, sendTo, workAt, work}
-use Rattle.step.specs.Rows.{Stands, Plain}
-use Rattle.step.specs.Clausal.{AreClauses}
+use Rattle.row_laws.specs.Rows.{Stands, Plain}
+use Rattle.choosing.specs.Clausal.{AreClauses}
 use Rattle.step.specs.declared.work.Doing.{Doing}
 use Rattle.step.specs.declared.work.Doing.the-variants.{Finished, Stuck, Seq, Send, Receive, Spawn, Own, Check}
 

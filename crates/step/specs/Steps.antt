@@ -1,4 +1,4 @@
--- What the functions of one step promise, said of the term that stands at the working place. Assumes nothing: these are definitions.
+-- What the functions of one step promise, said of the term that stands at the working place.
 use Prim.Native.Nat.{ℕ, _+_, _≤_, _<_}
 use mathlib.Core.Path.{_≡_}
 use mathlib.Core.Bool.{true, cond}
@@ -16,12 +16,13 @@ use Rattle.machine.specs.Operator.{operate}
 use Rattle.machine.specs.Match.{Bindings, unbound, with}
 use Rattle.machine.specs.Bind.{bind, parameters}
 use Rattle.machine.specs.Clauses.{clauseTakes, firstClause}
-use Rattle.step.specs.Rows.{Stands, PlainAll, Bound, Wrote}
-use Rattle.step.specs.Operands.{Gives}
-use Rattle.step.specs.Clausal.{ClauseIs, AreClauses, ChosenIs}
-use Rattle.step.specs.Nexts.{rowWith}
-use Rattle.step.specs.declared.operand.Operand.{Operand}
-use Rattle.step.specs.declared.clause.Chosen.{Chosen}
+use Rattle.row_laws.specs.Rows.{Stands, PlainAll, Bound}
+use Rattle.copying.specs.Copies.{Wrote}
+use Rattle.operands.specs.Operands.{Gives}
+use Rattle.choosing.specs.Clausal.{ClauseIs, AreClauses, ChosenIs}
+use Rattle.copying.specs.Nexts.{rowWith}
+use Rattle.operands.specs.declared.operand.Operand.{Operand}
+use Rattle.choosing.specs.declared.clause.Chosen.{Chosen}
 use Rattle.step.specs.declared.step.Next.{Next}
 use Rattle.step.specs.declared.step.Next.the-variants.{Nothing, TooLarge, Row}
 

@@ -1,9 +1,4 @@
 // What a control becomes: the next control, written into a lent buffer.
-use crate::copy::copy_words;
-use crate::copy::put;
-use crate::next::with_copy;
-use crate::next::with_word;
-use crate::place::find;
 use crate::step::Next;
 use crate::step::apply_next;
 use crate::step::call_next;
@@ -11,23 +6,29 @@ use crate::step::case_next;
 use crate::step::fitted;
 use crate::step::let_next;
 use crate::step::receive_next;
-use term::terms::skip;
-use term::words::APPLY;
-use term::words::CALL;
-use term::words::CASE;
-use term::words::LET;
-use term::words::VARIABLES;
-use term::words::k;
-use term::words::n;
-use term::words::tag;
-use term::words::word_of;
+use copying::copy::copy_words;
+use copying::copy::put;
+use copying::next::with_copy;
+use copying::next::with_word;
+use copying::place::find;
+use rows::terms::skip;
+use rows::words::APPLY;
+use rows::words::CALL;
+use rows::words::CASE;
+use rows::words::LET;
+use rows::words::VARIABLES;
+use rows::words::k;
+use rows::words::n;
+use rows::words::tag;
+use rows::words::word_of;
 ghost use Prim.Native.Nat.{_<_};
 ghost use lib.ListN.{length};
+ghost use Rattle.row_laws.specs.Bounds.{placeLimit};
 ghost use Rattle.step.specs.Becomes.{BecomesWord, Receives, SeqNext, Sent, SendNext, ChildNext};
 
 // The control with the word `w` in its working place: a check's atom, a self's or a spawn's pid.
 pub fn word_next(c: &[u32], w: u32, out: &mut [u32]) -> Next
-    requires { ⌜ length (now c) < 4294967295 ⌝ }
+    requires { ⌜ length (now c) < placeLimit ⌝ }
     ensures { λ r. ⌜ BecomesWord (now (c .entry)) w (now (out .entry)) (now (out .exit)) r ⌝ }
 {
     let at = find(c, 0, 1, c.len());
@@ -40,7 +41,7 @@ pub fn word_next(c: &[u32], w: u32, out: &mut [u32]) -> Next
 
 // The control of a receive, for one message's row `v`; nothing where no clause takes it.
 pub fn taken(c: &[u32], v: &[u32], out: &mut [u32]) -> Next
-    requires { ⌜ (length (now c) < 4294967295) × (length (now v) < 4294967295) ⌝ }
+    requires { ⌜ (length (now c) < placeLimit) × (length (now v) < placeLimit) ⌝ }
     ensures { λ r. ⌜ Receives (now (c .entry)) (now (v .entry)) (now (out .entry)) (now (out .exit)) r ⌝ }
 {
     let at = find(c, 0, 1, c.len());
@@ -52,7 +53,7 @@ pub fn taken(c: &[u32], v: &[u32], out: &mut [u32]) -> Next
 
 // The next control of a call, an apply, a case or a let; nothing where it is stuck.
 pub fn seq_next(program: &[u32], c: &[u32], out: &mut [u32]) -> Next
-    requires { ⌜ (length (now c) < 4294967295) × (length (now program) < 4294967295) ⌝ }
+    requires { ⌜ (length (now c) < placeLimit) × (length (now program) < placeLimit) ⌝ }
     ensures { λ r. ⌜ SeqNext (now (program .entry)) (now (c .entry)) (now (out .entry)) (now (out .exit)) r ⌝ }
 {
     let at = find(c, 0, 1, c.len());
@@ -81,8 +82,9 @@ pub struct Extent {
     pub to: usize,
 }
 
+// Of a finished control, which sends nothing, no words.
 pub fn sent(c: &[u32]) -> Extent
-    requires { ⌜ length (now c) < 4294967295 ⌝ }
+    requires { ⌜ length (now c) < placeLimit ⌝ }
     ensures { λ r. ⌜ Sent (now (c .entry)) r ⌝ }
 {
     let at = find(c, 0, 1, c.len());
@@ -96,7 +98,7 @@ pub fn sent(c: &[u32]) -> Extent
 
 // The control with a send's value in its working place.
 pub fn send_next(c: &[u32], out: &mut [u32]) -> Next
-    requires { ⌜ length (now c) < 4294967295 ⌝ }
+    requires { ⌜ length (now c) < placeLimit ⌝ }
     ensures { λ r. ⌜ SendNext (now (c .entry)) (now (out .entry)) (now (out .exit)) r ⌝ }
 {
     let at = find(c, 0, 1, c.len());
@@ -111,7 +113,7 @@ pub fn send_next(c: &[u32], out: &mut [u32]) -> Next
 
 // The first control of a spawn's child: the spawn's term with the tag of apply.
 pub fn child(c: &[u32], out: &mut [u32]) -> Next
-    requires { ⌜ length (now c) < 4294967295 ⌝ }
+    requires { ⌜ length (now c) < placeLimit ⌝ }
     ensures { λ r. ⌜ ChildNext (now (c .entry)) (now (out .entry)) (now (out .exit)) r ⌝ }
 {
     let at = find(c, 0, 1, c.len());
@@ -121,6 +123,7 @@ pub fn child(c: &[u32], out: &mut [u32]) -> Next
     let w = c[at];
     let first = at + 1;
     let end = skip(c, at, 1);
+    // Neither is ever so: a term ends behind its first word, and within the row.
     if end < first {
         return Next::Nothing;
     }

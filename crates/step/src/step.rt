@@ -1,22 +1,24 @@
-// What the term at the working place becomes: one function for each kind of step.
-use crate::clause::Chosen;
-use crate::clause::choose;
-use crate::matching::matches;
-use crate::next::with_copy;
-use crate::next::with_integer;
-use crate::next::with_word;
-use crate::operand::INTEGER_WORD;
-use crate::operand::Operand;
-use crate::operand::here;
-use crate::operand::operate;
-use term::functions::function_start;
-use term::terms::skip;
-use term::words::VARIABLES;
-use term::words::k;
-use term::words::n;
+// What the term at the working place becomes: one function for each kind of step. Where no such term stands, which the control check
+// rules out, there is no next control.
+use choosing::clause::Chosen;
+use choosing::clause::choose;
+use copying::matching::matches;
+use copying::next::with_copy;
+use copying::next::with_integer;
+use copying::next::with_word;
+use operands::operand::Operand;
+use operands::operand::here;
+use operands::operand::operate;
+use rows::functions::function_start;
+use rows::terms::skip;
+use rows::words::INTEGER_WORD;
+use rows::words::VARIABLES;
+use rows::words::k;
+use rows::words::n;
 ghost use mathlib.Core.Path.{_≡_};
 ghost use Prim.Native.Nat.{_<_, _≤_};
 ghost use lib.ListN.{length};
+ghost use Rattle.row_laws.specs.Bounds.{placeLimit};
 ghost use Rattle.step.specs.Steps.{fittedOf, CalledAt, CallNext, CasedAt, ClauseNext, CaseNext, LetNext, ReceiveNext, ParametersAt, ApplyNext};
 
 // No next control; one that is too large; one of so many words.
@@ -25,6 +27,9 @@ pub enum Next {
     TooLarge,
     Row(usize),
 }
+
+// What is written where there is nothing to write.
+const NO_WORDS: usize = 0;
 
 pub fn fitted(r: usize, room: usize) -> Next
     ensures { λ s. ⌜ s ≡ fittedOf r room ⌝ }
@@ -37,7 +42,7 @@ pub fn fitted(r: usize, room: usize) -> Next
 
 // What the call at `at` gives.
 pub fn called(c: &[u32], at: usize) -> Operand
-    requires { ⌜ length (now c) < 4294967295 ⌝ }
+    requires { ⌜ length (now c) < placeLimit ⌝ }
     ensures { λ r. ⌜ CalledAt (now (c .entry)) at r ⌝ }
 {
     if c.len() <= at {
@@ -51,7 +56,7 @@ pub fn called(c: &[u32], at: usize) -> Operand
 }
 
 pub fn call_next(c: &[u32], at: usize, out: &mut [u32]) -> Next
-    requires { ⌜ (at ≤ length (now c)) × (length (now c) < 4294967295) ⌝ }
+    requires { ⌜ (at ≤ length (now c)) × (length (now c) < placeLimit) ⌝ }
     ensures { λ r. ⌜ CallNext (now (c .entry)) at (now (out .entry)) (now (out .exit)) r ⌝ }
 {
     let r = called(c, at);
@@ -63,6 +68,7 @@ pub fn call_next(c: &[u32], at: usize, out: &mut [u32]) -> Next
             }
             fitted(with_word(c, at, w, out), room)
         }
+        // Never so: no operator gives a cons or a tuple.
         Operand::Here(i) => Next::Nothing,
         Operand::There(i) => Next::Nothing,
         Operand::Stuck => Next::Nothing,
@@ -71,7 +77,7 @@ pub fn call_next(c: &[u32], at: usize, out: &mut [u32]) -> Next
 
 // The clause that the case at `at` takes.
 pub fn cased(c: &[u32], at: usize) -> Chosen
-    requires { ⌜ length (now c) < 4294967295 ⌝ }
+    requires { ⌜ length (now c) < placeLimit ⌝ }
     ensures { λ r. ⌜ CasedAt (now (c .entry)) at r ⌝ }
 {
     if c.len() <= at {
@@ -84,11 +90,12 @@ pub fn cased(c: &[u32], at: usize) -> Chosen
 
 // The body of the clause at `clause` in place of the term at `at`, for the value at `va` in `v`.
 fn clause_next(c: &[u32], at: usize, clause: usize, v: &[u32], va: usize, out: &mut [u32]) -> usize
-    requires { ⌜ (at ≤ length (now c)) × (length (now c) < 4294967295) × (length (now v) < 4294967295) ⌝ }
+    requires { ⌜ (at ≤ length (now c)) × (length (now c) < placeLimit) × (length (now v) < placeLimit) ⌝ }
     ensures { λ r. ⌜ ClauseNext (now (c .entry)) at clause (now (v .entry)) va (now (out .entry)) (now (out .exit)) r ⌝ }
 {
+    // Never so: the place is that of a clause.
     if c.len() <= clause {
-        return 0;
+        return NO_WORDS;
     }
     let mut env = [0; VARIABLES];
     let fits = matches(c, clause + 1, v, va, 1, &mut env);
@@ -97,7 +104,7 @@ fn clause_next(c: &[u32], at: usize, clause: usize, v: &[u32], va: usize, out: &
 }
 
 pub fn case_next(c: &[u32], at: usize, out: &mut [u32]) -> Next
-    requires { ⌜ (at ≤ length (now c)) × (length (now c) < 4294967295) ⌝ }
+    requires { ⌜ (at ≤ length (now c)) × (length (now c) < placeLimit) ⌝ }
     ensures { λ r. ⌜ CaseNext (now (c .entry)) at (now (out .entry)) (now (out .exit)) r ⌝ }
 {
     let r = cased(c, at);
@@ -109,7 +116,7 @@ pub fn case_next(c: &[u32], at: usize, out: &mut [u32]) -> Next
 }
 
 pub fn let_next(c: &[u32], at: usize, out: &mut [u32]) -> Next
-    requires { ⌜ (at ≤ length (now c)) × (length (now c) < 4294967295) ⌝ }
+    requires { ⌜ (at ≤ length (now c)) × (length (now c) < placeLimit) ⌝ }
     ensures { λ r. ⌜ LetNext (now (c .entry)) at (now (out .entry)) (now (out .exit)) r ⌝ }
 {
     if c.len() <= at {
@@ -117,6 +124,7 @@ pub fn let_next(c: &[u32], at: usize, out: &mut [u32]) -> Next
     }
     let mut env = [0; VARIABLES];
     let x = k(c[at]) as usize;
+    // Never so: the control check asks for a variable.
     if VARIABLES <= x {
         return Next::Nothing;
     }
@@ -128,7 +136,7 @@ pub fn let_next(c: &[u32], at: usize, out: &mut [u32]) -> Next
 
 // What the receive at `at` makes of the value `v`.
 pub fn receive_next(c: &[u32], at: usize, v: &[u32], out: &mut [u32]) -> Next
-    requires { ⌜ (at ≤ length (now c)) × (length (now c) < 4294967295) × (length (now v) < 4294967295) ⌝ }
+    requires { ⌜ (at ≤ length (now c)) × (length (now c) < placeLimit) × (length (now v) < placeLimit) ⌝ }
     ensures { λ r. ⌜ ReceiveNext (now (c .entry)) at (now (v .entry)) (now (out .entry)) (now (out .exit)) r ⌝ }
 {
     if c.len() <= at {
@@ -144,7 +152,7 @@ pub fn receive_next(c: &[u32], at: usize, v: &[u32], out: &mut [u32]) -> Next
 
 // The places of the `count` values at `at` as those of the variables from `x` on.
 fn parameters(c: &[u32], at: usize, count: usize, x: usize, env: &mut [u32])
-    requires { ⌜ length (now c) < 4294967295 ⌝ }
+    requires { ⌜ length (now c) < placeLimit ⌝ }
     ensures { λ r. ⌜ ParametersAt (now (c .entry)) at count x (now (env .entry)) (now (env .exit)) ⌝ }
 {
     if count == 0 {
@@ -163,7 +171,7 @@ fn parameters(c: &[u32], at: usize, count: usize, x: usize, env: &mut [u32])
 
 // The apply at `at` becomes the body of its function in `program`.
 pub fn apply_next(program: &[u32], c: &[u32], at: usize, out: &mut [u32]) -> Next
-    requires { ⌜ (at ≤ length (now c)) × (length (now c) < 4294967295) × (length (now program) < 4294967295) ⌝ }
+    requires { ⌜ (at ≤ length (now c)) × (length (now c) < placeLimit) × (length (now program) < placeLimit) ⌝ }
     ensures { λ r. ⌜ ApplyNext (now (program .entry)) (now (c .entry)) at (now (out .entry)) (now (out .exit)) r ⌝ }
 {
     if c.len() <= at {
@@ -173,6 +181,7 @@ pub fn apply_next(program: &[u32], c: &[u32], at: usize, out: &mut [u32]) -> Nex
     let mut env = [0; VARIABLES];
     parameters(c, at + 1, n(w) as usize, 0, &mut env);
     let start = function_start(program, k(w) as usize);
+    // Never so: the control check asks for a function of the module.
     if program.len() <= start {
         return Next::Nothing;
     }

@@ -1,23 +1,24 @@
 // What a control is about to do.
-use crate::clause::Chosen;
-use crate::operand::Operand;
-use crate::place::find;
 use crate::step::called;
 use crate::step::cased;
-use term::words::APPLY;
-use term::words::CALL;
-use term::words::CASE;
-use term::words::CHECK;
-use term::words::LET;
-use term::words::PID;
-use term::words::RECEIVE;
-use term::words::SELF;
-use term::words::SEND;
-use term::words::SPAWN;
-use term::words::k;
-use term::words::tag;
+use choosing::clause::Chosen;
+use copying::place::find;
+use operands::operand::Operand;
+use rows::words::APPLY;
+use rows::words::CALL;
+use rows::words::CASE;
+use rows::words::CHECK;
+use rows::words::LET;
+use rows::words::PID;
+use rows::words::RECEIVE;
+use rows::words::SELF;
+use rows::words::SEND;
+use rows::words::SPAWN;
+use rows::words::k;
+use rows::words::tag;
 ghost use Prim.Native.Nat.{_<_, _≤_};
 ghost use lib.ListN.{length};
+ghost use Rattle.row_laws.specs.Bounds.{placeLimit};
 ghost use Rattle.step.specs.Controls.{CallDoing, CaseDoing, SendDoing, DoingAt, DoingOf};
 
 // The cases of 01; a send with its target, a check with its number.
@@ -33,20 +34,21 @@ pub enum Doing {
 }
 
 fn call_doing(c: &[u32], at: usize) -> Doing
-    requires { ⌜ length (now c) < 4294967295 ⌝ }
+    requires { ⌜ length (now c) < placeLimit ⌝ }
     ensures { λ r. ⌜ CallDoing (now (c .entry)) at r ⌝ }
 {
     let r = called(c, at);
     match r {
         Operand::Stuck => Doing::Stuck,
         Operand::Short(w, x) => Doing::Seq,
+        // Never so: no operator gives a cons or a tuple.
         Operand::Here(i) => Doing::Seq,
         Operand::There(i) => Doing::Seq,
     }
 }
 
 fn case_doing(c: &[u32], at: usize) -> Doing
-    requires { ⌜ length (now c) < 4294967295 ⌝ }
+    requires { ⌜ length (now c) < placeLimit ⌝ }
     ensures { λ r. ⌜ CaseDoing (now (c .entry)) at r ⌝ }
 {
     let r = cased(c, at);
@@ -70,9 +72,9 @@ fn send_doing(c: &[u32], at: usize) -> Doing
     Doing::Stuck
 }
 
-// What is done at the working place `at`.
+// What is done at the working place `at`; stuck where no term stands that can be worked on, which the control check rules out.
 fn doing_at(c: &[u32], at: usize) -> Doing
-    requires { ⌜ length (now c) < 4294967295 ⌝ }
+    requires { ⌜ length (now c) < placeLimit ⌝ }
     ensures { λ r. ⌜ DoingAt (now (c .entry)) at r ⌝ }
 {
     if c.len() <= at {
@@ -112,7 +114,7 @@ fn doing_at(c: &[u32], at: usize) -> Doing
 
 // What the control `c` is about to do.
 pub fn about_to(c: &[u32]) -> Doing
-    requires { ⌜ length (now c) < 4294967295 ⌝ }
+    requires { ⌜ length (now c) < placeLimit ⌝ }
     ensures { λ r. ⌜ DoingOf (now (c .entry)) r ⌝ }
 {
     let at = find(c, 0, 1, c.len());

@@ -12,9 +12,9 @@ use Rattle.lists.proofs.Fill.{length-fill}
 use Rattle.lists.proofs.Blocks.{Each, length-joined, length-numbered}
 use Rattle.term.specs.Module.{longestModule}
 use Rattle.rules.specs.State.{Sizes, State}
-use Rattle.rules.specs.Cases.{benchSizes}
+use Rattle.rules.specs.Bench.{benchSizes, benchStore}
 use Rattle.store.specs.Layout.{blocksFrom, namesRoom, slotSize, slotCount, blockSize, needed, Slot, freeSlot, slotWords, slotsAt, block, head, laid, image}
-use Rattle.store.specs.Image.{mostNeeded, benchStore}
+use Rattle.store.specs.Image.{mostNeeded}
 
 pub length-slot : (sizes : Sizes) (x : Slot) → length (slotWords sizes x) ≡ slotSize sizes
 unfolding slotWords

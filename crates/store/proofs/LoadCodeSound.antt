@@ -13,21 +13,21 @@ use Rattle.term.specs.Module.{checkModule}
 use Rattle.rules.specs.State.{Sizes}
 use Rattle.rules.specs.Answers.{done, badModule, badSizes}
 use Rattle.rules.specs.Load.{goodSizes, loaded, loads, load}
-use Rattle.rules.proofs.Demands.{demands}
+use Rattle.demands.proofs.Consequences.{consequences}
 use Rattle.store.specs.Layout.{needed, image}
 use Rattle.store.specs.Image.{IsImage}
-use Rattle.store.specs.Loading.{numberOf, Outcome, afterLoad, loadInto, LoadAnswers}
+use Rattle.store.specs.Loading.{loadNumber, Outcome, afterLoad, loadInto, LoadAnswers}
 use Rattle.store.specs.declared.load.Loaded.{Loaded}
 use Rattle.store.proofs.LoadCodeAnswers.{and-short, into-short, into-load, load-refused, load-loads}
 
 module _ (module′ : List ℕ) (sizes : Sizes) (l : List ℕ) where
   -- the three ways that a load goes
-  data Goes : Type 0 where
+  pub data Goes : Type 0 where
     short : loadInto module′ sizes l ≡ record { number = badSizes; value = 0; left = l } → Goes
     bad : (at : ℕ) → loadInto module′ sizes l ≡ record { number = badModule; value = at; left = l } → Goes
     good : load module′ sizes ≡ loads (loaded module′ sizes) → loadInto module′ sizes l ≡ record { number = done; value = 0; left = image (loaded module′ sizes) ++ drop (needed sizes) l } → Goes
 
-  goes : Goes
+  pub goes : Goes
   unfolding afterLoad loaded
   goes = elim (true-or-false (goodSizes sizes)) [
     | inr f ↦ short (into-short module′ sizes l (ap (λ (b : Bool). b && leb (needed sizes) (length l)) f))
@@ -42,20 +42,20 @@ module _ (module′ : List ℕ) (sizes : Sizes) (l : List ℕ) where
       go g h none e = let it = load-loads module′ sizes l g e in good it (into-load module′ sizes l (and-of g h) ∙ ap (afterLoad l) it)
 
   module _ (x : List ℕ) (r : Loaded) (a : LoadAnswers module′ sizes l x r) where
-    number-of : {o : Outcome} → loadInto module′ sizes l ≡ o → numberOf r ≡ o .number
+    number-of : {o : Outcome} → loadInto module′ sizes l ≡ o → loadNumber r ≡ o .number
     number-of e = a .number ∙ ap (λ (o : Outcome). o .number) e
 
     left-of : {o : Outcome} → loadInto module′ sizes l ≡ o → x ≡ o .left
     left-of e = a .left ∙ ap (λ (o : Outcome). o .left) e
 
-    pub load-leaves : numberOf r ≡ done → IsImage x
+    pub load-leaves : loadNumber r ≡ done → IsImage x
     load-leaves n = elim goes [
       | short e ↦ let z = number-of e in absurd (omega arith)
       | bad at e ↦ let z = number-of e in absurd (omega arith)
-      | good it e ↦ record { state = loaded module′ sizes; rest = drop (needed sizes) l; sound = demands .sound .loaded module′ sizes (loaded module′ sizes) it; words = left-of e }
+      | good it e ↦ record { state = loaded module′ sizes; rest = drop (needed sizes) l; sound = consequences .sound .loaded module′ sizes (loaded module′ sizes) it; words = left-of e }
     ]
 
-    pub load-keeps : ¬ (numberOf r ≡ done) → x ≡ l
+    pub load-keeps : ¬ (loadNumber r ≡ done) → x ≡ l
     load-keeps n = elim goes [
       | short e ↦ left-of e
       | bad at e ↦ left-of e

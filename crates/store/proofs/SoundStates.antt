@@ -122,14 +122,14 @@ module _ (s : State) (sound : Sound s) where
       record { target = t; said = e; small = omega arith }
 
   -- no two messages of a list have one name's number
-  abbrev Once : List Message → Type 0
+  abbrev pub Once : List Message → Type 0
   Once ms = (c : ℕ) → occurs c (nameNumbers (s .sizes .entries) ms) ≤ 1
 
   -- how often a name's number stands in a list of messages
-  abbrev often : ℕ → List Message → ℕ
+  abbrev pub often : ℕ → List Message → ℕ
   often c ms = occurs c (nameNumbers (s .sizes .entries) ms)
 
-  often-append : (c : ℕ) (xs ys : List Message) → often c (xs ++ ys) ≡ often c xs + often c ys
+  pub often-append : (c : ℕ) (xs ys : List Message) → often c (xs ++ ys) ≡ often c xs + often c ys
   often-append c xs ys =
       ap (occurs c) (map-append (nameNumber (s .sizes .entries)) xs ys) ∙ occurs-append c (nameNumbers (s .sizes .entries) xs) (nameNumbers (s .sizes .entries) ys)
 
@@ -177,7 +177,7 @@ module _ (s : State) (sound : Sound s) where
           let all′ = all-before (SentTo s t) before m after (f .0 .others) (taken older) (subst (All (SentTo s t)) split a) in
           (kept-queue t (before ++ (m ∷ after)) (taken older) once′ all′, r (before ++ (m ∷ after)) (f .1) once′ all′)
 
-  once-at : (t : ℕ) → Once (s .queues t ++ taken (historyAt s t))
+  pub once-at : (t : ℕ) → Once (s .queues t ++ taken (historyAt s t))
   once-at t = names-once (s .sizes .places) (s .sizes .entries) (s .queues t ++ taken (historyAt s t)) (all-so (numbered t) (s .queues t ++ taken (historyAt s t)) (sound .nothing-else t)) (sound .once t)
 
   -- what is said of each entry by itself

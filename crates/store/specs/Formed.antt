@@ -1,4 +1,4 @@
--- Words that keep the layout, whatever they say. Assumes nothing: these are definitions.
+-- Words that keep the layout, whatever they say.
 use Prim.Native.Nat.{ℕ, zero, suc, _+_, _*_, _≤_, _<_}
 use mathlib.Core.Path.{_≡_}
 use mathlib.Core.Bool.{true, false}

@@ -1,4 +1,4 @@
--- Which words are an image, and what is shown of images. Assumes nothing: these are definitions; `image-laws` of proofs/ shows them.
+-- Which words are an image, and what is shown of images. `image-laws` of proofs/ shows them.
 use Prim.Native.Nat.{ℕ, _+_, _*_, _≤_, _<_}
 use mathlib.Core.Path.{_≡_}
 use mathlib.Core.Option.{some}
@@ -7,7 +7,7 @@ use lib.ListN.{length}
 use Rattle.lists.specs.Lists.{All}
 use Rattle.rules.specs.State.{Sizes, Entry, Process, State, historyAt, entryAt}
 use Rattle.rules.specs.Sound.{Sound}
-use Rattle.rules.specs.Cases.{benchSizes}
+use Rattle.rules.specs.Bench.{benchSizes, benchStore}
 use Rattle.store.specs.Layout.{needed, image}
 
 -- the words begin with the image of a sound state
@@ -33,10 +33,6 @@ pub record Worded (s : State) : Type 0 where
 -- 01: "at most 1,024 + P(H+2)(W + PH + 8)"
 unfoldable pub mostNeeded : Sizes → ℕ
 mostNeeded sizes = 1024 + sizes .places * ((sizes .entries + 2) * (sizes .words + sizes .places * sizes .entries + 8))
-
--- the words of the program bench's store
-abbrev pub benchStore : ℕ
-benchStore = 10816
 
 pub record ImageLaws : Type 0 where
   -- an image has the length that its sizes need, which 01 bounds

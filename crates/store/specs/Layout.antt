@@ -1,5 +1,4 @@
--- The layout of the store. 01: "Each sound state has exactly one store image, by a layout in docs/." (docs/LAYOUT.md). Assumes nothing:
--- these are definitions.
+-- The layout of the store. 01: "Each sound state has exactly one store image, by a layout in docs/." (docs/LAYOUT.md).
 use Prim.Native.Nat.{ℕ, suc, _+_, _*_}
 use mathlib.Core.Option.{Option, none, some}
 use mathlib.Core.List.{List, [], _∷_, _++_, map, reverse}
@@ -18,7 +17,7 @@ headWords = 4
 abbrev pub blocksFrom : ℕ
 blocksFrom = headWords + longestModule
 
--- a slot: eight words, then room for a control, then room for the names of a queue: "at most PH messages exist"
+-- a slot: eight words, then room for a control, then room for the names of a queue: P processes send at most H messages each
 abbrev pub slotHead : ℕ
 slotHead = 8
 

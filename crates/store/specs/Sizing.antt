@@ -1,4 +1,4 @@
--- Sizes as the numbers that the code has. Assumes nothing: these are definitions.
+-- Sizes as the numbers that the code has.
 use Prim.Native.Nat.{ℕ}
 use Rattle.rules.specs.State.{Sizes}
 

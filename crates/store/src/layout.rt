@@ -1,16 +1,38 @@
 // The layout of the store: its sizes, and where its parts stand.
+use checks::module::LONGEST;
 ghost use mathlib.Core.Path.{_≡_};
 ghost use mathlib.Core.Bool.{true};
 ghost use Rattle.rules.specs.Load.{goodSizes};
 ghost use Rattle.store.specs.Layout.{slotSize, blockSize, needed as neededOf};
 ghost use Rattle.store.specs.Sizing.{sizesOf};
 
-// P, H, W and the module's length; then the module's words; then a block for each place.
+// The head of a store: P, H, W and the module's length; then the module's words; then a block for each place.
+pub const HEAD_PLACES: usize = 0;
+
+pub const HEAD_ENTRIES: usize = 1;
+
+pub const HEAD_WORDS: usize = 2;
+
+pub const HEAD_MODULE: usize = 3;
+
 pub const HEAD: usize = 4;
 
-pub const BLOCKS: usize = 516;
+pub const BLOCKS: usize = HEAD + LONGEST;
 
-// The words of a slot before its control.
+// The head of a slot: its kind, how many words its control has, the number that goes with its kind, how many messages its
+// queue has; one word between and three behind are zeros. Then the control.
+pub const SLOT_KIND: usize = 0;
+
+pub const SLOT_WORDS: usize = 1;
+
+pub const SLOT_NUMBER: usize = 2;
+
+pub const SLOT_ZERO: usize = 3;
+
+pub const SLOT_QUEUE: usize = 4;
+
+pub const SLOT_ZEROS: usize = 5;
+
 pub const SLOT_HEAD: usize = 8;
 
 // The most that sizes allow, and the least words of an expression.
@@ -29,8 +51,8 @@ pub const CONTROL_ROOM: usize = MOST_WORDS as usize;
 
 pub const NAMES_ROOM: usize = PLACES_ROOM * MOST_ENTRIES as usize;
 
-// A message's name in one word: its sender times this, plus its count.
-pub const NAME_BASE: u32 = 65536;
+// Room for a whole slot.
+pub const SLOT_ROOM: usize = SLOT_HEAD + CONTROL_ROOM + NAMES_ROOM;
 
 // The kinds of slots: free, an entry of each kind, the present of a process.
 pub const FREE: u32 = 0;

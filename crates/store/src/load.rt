@@ -5,10 +5,10 @@ use crate::layout::HEAD;
 use crate::layout::LIVE;
 use crate::layout::needed;
 use crate::layout::sizes_good;
-use term::module::Checked;
-use term::module::check_module;
-use term::words::APPLY;
-use term::words::word_of;
+use checks::module::Checked;
+use checks::module::check_module;
+use rows::words::APPLY;
+use rows::words::word_of;
 ghost use Rattle.store.specs.Sizing.{sizesOf};
 ghost use Rattle.store.specs.Loading.{LoadAnswers};
 
@@ -35,6 +35,7 @@ pub fn load(module: &[u32], places: u32, entries: u32, words: u32, store: &mut [
         Checked::Bad(at) => Loaded::BadModule(at),
         Checked::Good => {
             let head = [places, entries, words, module.len() as u32];
+            // The slot of the first process: its control has one word, an apply of function 0, and its queue is empty.
             let first = [LIVE, 1, 0, 0, 0, 0, 0, 0, word_of(APPLY, 0, 0)];
             fill(&mut store[0..HEAD], &head);
             fill(&mut store[HEAD..BLOCKS], module);

@@ -1,5 +1,7 @@
-// Slots: where they start, and the words of their heads.
+// Slots: where they start, and how long their controls and queues are.
 use crate::layout::BLOCKS;
+use crate::layout::SLOT_QUEUE;
+use crate::layout::SLOT_WORDS;
 use crate::layout::block_size;
 use crate::layout::slot_size;
 ghost use mathlib.Core.Path.{_≡_};
@@ -18,28 +20,12 @@ pub fn slot_start(places: usize, entries: usize, words: usize, p: usize, i: usiz
     BLOCKS + p * block_size(places, entries, words) + i * slot_size(places, entries, words)
 }
 
-// A slot's kind.
-pub fn kind(slot: &[u32]) -> u32
-    requires { ⌜ slotHead ≤ length (now slot) ⌝ }
-    ensures { λ r. ⌜ r ≡ getD (now (slot .entry)) 0 0 ⌝ }
-{
-    slot[0]
-}
-
 // How many words its control has.
 pub fn control_length(slot: &[u32]) -> usize
     requires { ⌜ slotHead ≤ length (now slot) ⌝ }
     ensures { λ r. ⌜ r ≡ getD (now (slot .entry)) 1 0 ⌝ }
 {
-    slot[1] as usize
-}
-
-// The number that goes with its kind.
-pub fn number(slot: &[u32]) -> u32
-    requires { ⌜ slotHead ≤ length (now slot) ⌝ }
-    ensures { λ r. ⌜ r ≡ getD (now (slot .entry)) 2 0 ⌝ }
-{
-    slot[2]
+    slot[SLOT_WORDS] as usize
 }
 
 // How many messages its queue has.
@@ -47,5 +33,5 @@ pub fn queue_length(slot: &[u32]) -> usize
     requires { ⌜ slotHead ≤ length (now slot) ⌝ }
     ensures { λ r. ⌜ r ≡ getD (now (slot .entry)) 4 0 ⌝ }
 {
-    slot[4] as usize
+    slot[SLOT_QUEUE] as usize
 }

@@ -2,7 +2,14 @@
 use crate::layout::BLOCKS;
 use crate::layout::FREE;
 use crate::layout::HEAD;
+use crate::layout::HEAD_ENTRIES;
+use crate::layout::HEAD_MODULE;
+use crate::layout::HEAD_PLACES;
+use crate::layout::HEAD_WORDS;
 use crate::layout::SLOT_HEAD;
+use crate::layout::SLOT_KIND;
+use crate::layout::SLOT_ZERO;
+use crate::layout::SLOT_ZEROS;
 use crate::layout::block_size;
 use crate::layout::needed;
 use crate::layout::sizes_good;
@@ -10,7 +17,7 @@ use crate::layout::slot_size;
 use crate::slot::control_length;
 use crate::slot::queue_length;
 use crate::zeros::zeros;
-use term::module::LONGEST;
+use checks::module::LONGEST;
 ghost use mathlib.Core.Path.{_≡_};
 ghost use mathlib.Core.Bool.{true};
 ghost use Prim.Native.Nat.{ℕ, _+_, _*_, _<_, _≤_};
@@ -27,10 +34,10 @@ pub fn slot_formed(slot: &[u32], places: usize, entries: usize, words: usize) ->
     requires { ⌜ (goodSizes (sizesOf places entries words) ≡ true) × (length (now slot) ≡ slotSize (sizesOf places entries words)) ⌝ }
     ensures { λ r. ⌜ Decides (WellSlot (sizesOf places entries words) (now (slot .entry))) r ⌝ }
 {
-    if slot[3] != 0 {
+    if slot[SLOT_ZERO] != 0 {
         return false;
     }
-    if !zeros(&slot[5..SLOT_HEAD]) {
+    if !zeros(&slot[SLOT_ZEROS..SLOT_HEAD]) {
         return false;
     }
     let control = control_length(slot);
@@ -59,7 +66,7 @@ pub fn block_formed(block: &[u32], places: usize, entries: usize, words: usize) 
     let mut rest = block;
     let mut left = entries + 1;
     while 0 < left {
-        if rest[0] == FREE {
+        if rest[SLOT_KIND] == FREE {
             return zeros(rest);
         }
         if !slot_formed(&rest[0..size], places, entries, words) {
@@ -96,16 +103,16 @@ pub fn well_formed(store: &[u32]) -> bool
     if store.len() < BLOCKS {
         return false;
     }
-    if !sizes_good(store[0], store[1], store[2]) {
+    if !sizes_good(store[HEAD_PLACES], store[HEAD_ENTRIES], store[HEAD_WORDS]) {
         return false;
     }
-    let places = store[0] as usize;
-    let entries = store[1] as usize;
-    let words = store[2] as usize;
+    let places = store[HEAD_PLACES] as usize;
+    let entries = store[HEAD_ENTRIES] as usize;
+    let words = store[HEAD_WORDS] as usize;
     if store.len() < needed(places, entries, words) {
         return false;
     }
-    let length = store[3] as usize;
+    let length = store[HEAD_MODULE] as usize;
     if LONGEST < length {
         return false;
     }

@@ -1,35 +1,29 @@
--- What a good module and a good control are, as trees, for those who have been told so by the checks.
+-- What the module check comes to, and what a good module and a good control are, as trees.
 use Prim.Native.Nat.{ℕ, suc, _≤_}
 use mathlib.Core.Path.{_≡_, refl, sym, ap, _∙_}
 use mathlib.Core.Bool.{Bool, true, false}
 use mathlib.Core.Option.{Option, none, some}
 use mathlib.Core.List.{List}
 use lib.Dec.{ltb}
-use lib.ListN.{length, take, replicate}
-use Rattle.lists.proofs.Tests.{true-not-false, none-not-some, some-injective, ltb-false, ltb-over}
+use lib.ListN.{length, replicate}
+use Rattle.lists.proofs.Tests.{true-not-false, none-not-some, ltb-false, ltb-over}
 use Rattle.term.specs.Table.{spotFunction, spotExpression}
 use Rattle.term.specs.Tree.{Term, Terms, words, wordsOf}
 use Rattle.term.specs.Read.{termsOf, termOf}
 use Rattle.term.specs.Shape.{moduleShape, controlShape}
 use Rattle.term.specs.Fit.{Fit, FitAll}
 use Rattle.term.specs.Module.{longestModule, firstBreaker, checkModule}
-use Rattle.term.specs.Control.{keepsRules, goodControl, moduleArities}
-use Rattle.term.specs.declared.module.Checked.{Checked}
-use Rattle.term.specs.declared.module.Checked.the-variants.{Good, Bad}
-use Rattle.term.specs.declared.module.Functions.{Functions as ModuleRead}
-use Rattle.term.specs.declared.module.Functions.the-variants.{Count, Fails}
-use Rattle.term.specs.Checking.{badOf, failOf, ReadFunctions}
+use Rattle.term.specs.Control.{keepsRules, goodControl}
 use Rattle.term.proofs.ReadLaws.{terms-of-words, term-of-words}
 use Rattle.term.proofs.ShapeLaws.{Functions, shaped-module, shaped-control, module-shaped, control-shaped, fit-whole, fit-all-whole}
-use Rattle.term.proofs.CheckLaws.{answer, check-is}
 
--- an answer of the module check is the only one that its contract allows
-pub one-answer : (r s : Checked) → badOf r ≡ badOf s → r ≡ s
-unfolding badOf
-one-answer Good Good e = refl
-one-answer Good (Bad p) e = none-not-some e
-one-answer (Bad p) Good e = none-not-some (sym e)
-one-answer (Bad p) (Bad q) e = ap Bad (some-injective e)
+-- the check, by the two tests that are made there
+unfoldable pub answer : Bool → Option ℕ → Option ℕ → Option ℕ
+answer long shape rest = elim long [ true ↦ some longestModule | false ↦ elim shape [ some at ↦ some at | none ↦ rest ] ]
+
+pub check-is : (l : List ℕ) → checkModule l ≡ answer (ltb longestModule (length l)) (moduleShape l) (firstBreaker (termsOf l))
+unfolding checkModule answer
+check-is l = refl
 
 -- a good module: at most 512 words, the words of well-shaped functions that keep the rules
 pub record GoodModule (l : List ℕ) : Type 0 where
@@ -91,15 +85,3 @@ unfolding said
 control-good places arities t f k =
     let same : keepsRules arities (termOf (words t)) ≡ true = ap (keepsRules arities) (term-of-words t (fit-whole places spotExpression t f)) ∙ k in
     control-is places arities (words t) ∙ rw (control-shaped places t f) same
-
--- reading the functions of a good module passes, and notes their parameter counts
-pub record Noted (l counts : List ℕ) (r : ModuleRead) : Type 0 where
-  pub many : ℕ
-  pub is : r ≡ Count many
-  pub noted : take many counts ≡ moduleArities l
-  pub within : many ≤ length counts
-
-pub good-noted : (l counts : List ℕ) (r : ModuleRead) → moduleShape l ≡ none → ReadFunctions l counts r → Noted l counts r
-unfolding failOf
-good-noted l counts (Count m) e h = let c = h .counted m refl in record { many = m; is = refl; noted = c .0; within = c .1 }
-good-noted l counts (Fails p) e h = none-not-some (sym (h .answer ∙ e))

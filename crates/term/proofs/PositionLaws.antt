@@ -17,7 +17,7 @@ use Rattle.term.specs.Shape.{wanted, shape, shapePayload, moduleShape}
 use Rattle.term.specs.Binding.{Walk, breaks, passes, andThen, binds, bindsAll, keepsRule, checksAfter, keeps, keepsAll, keepsLet, keepsClause, functionKeeps, functionsKeep}
 use Rattle.term.specs.Module.{longestModule, aritiesOf, rulesFrom, breaker, firstBreaker, checkModule}
 use Rattle.term.proofs.ReadLaws.{read-sound}
-use Rattle.term.proofs.CheckLaws.{answer, check-is}
+use Rattle.term.proofs.GoodLaws.{answer, check-is}
 
 -- ---- shape
 

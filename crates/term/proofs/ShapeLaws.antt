@@ -17,7 +17,7 @@ use Rattle.term.specs.Table.{Children, alike, body, ofClause, ofCase, of
 use Rattle.term.specs.Tree.{Term, Terms, int, node, end, _then_, words, wordsOf, count, first, rest, Whole, WholeAll}
 use Rattle.term.specs.Read.{termsOf, termOf}
 use Rattle.term.specs.Shape.{wanted, shape, shapePayload, moduleShape, controlShape}
-use Rattle.term.proofs.Fit.{Fit, FitAll}
+use Rattle.term.specs.Fit.{Fit, FitAll}
 use Rattle.term.proofs.WordLaws.{tag-word, word-parts}
 use Rattle.term.proofs.TreeLaws.{words-one, words-split, count-first}
 use Rattle.term.proofs.ReadLaws.{terms-of-words, term-of-words}

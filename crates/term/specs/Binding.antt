@@ -1,4 +1,4 @@
--- The rules past shape: binding, names of functions, numbers of checks. Assumes nothing: these are definitions.
+-- The rules past shape: binding, names of functions, numbers of checks.
 -- The words are gone through in order, so the first that breaks a rule has the least position, and of two equal numbers or binders
 -- the later breaks it.
 use Prim.Native.Nat.{ℕ, suc, _+_}

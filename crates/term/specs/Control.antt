@@ -1,5 +1,5 @@
 -- Controls. 01: they "are closed, well shaped, keep the module's binding rules, may hold pids outside patterns (and any values in
--- guards), and name functions rightly". Assumes nothing: these are definitions.
+-- guards), and name functions rightly".
 use Prim.Native.Nat.{ℕ}
 use mathlib.Core.Bool.{Bool, true, false}
 use mathlib.Core.Option.{Option, none, some}

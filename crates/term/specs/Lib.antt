@@ -8,10 +8,6 @@ pub mod Binding
 pub mod Module
 pub mod Control
 pub mod Value
-pub mod Kinds
 pub mod Rows
-pub mod Reading
-pub mod Walking
-pub mod Checking
 pub mod Places
 pub mod Cases

@@ -1,4 +1,4 @@
--- Modules: the check that load makes, and the functions of a module. Assumes nothing: these are definitions.
+-- Modules: the check that load makes, and the functions of a module.
 use Prim.Native.Nat.{ℕ, zero, suc}
 use mathlib.Core.Bool.{Bool, true, false}
 use mathlib.Core.Option.{Option, none, some}

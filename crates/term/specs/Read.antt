@@ -1,4 +1,4 @@
--- Reading terms off a row of words, in order. Assumes nothing: these are definitions.
+-- Reading terms off a row of words, in order.
 use Prim.Native.Nat.{ℕ, zero, suc, _+_, pred}
 use mathlib.Core.Bool.{Bool, true, false}
 use mathlib.Core.Option.{Option, none, some}

@@ -1,10 +1,9 @@
--- Terms in a row of words, without reading them into trees: how many words they take, and whether they are values.
--- Assumes nothing: these are definitions.
+-- Terms in a row of words, without reading them into trees: how many words they take.
 use Prim.Native.Nat.{ℕ, zero, suc, _+_}
-use mathlib.Core.Bool.{Bool, true, false, _&&_}
+use mathlib.Core.Bool.{true, false}
 use mathlib.Core.List.{List, [], _∷_}
-use lib.Dec.{eqb, leb}
-use Rattle.term.specs.Words.{tagOf, nOf, tagInteger, tagAtom, tagTuple}
+use lib.Dec.{eqb}
+use Rattle.term.specs.Words.{tagOf, nOf, tagInteger}
 use Rattle.term.specs.Table.{arity}
 
 -- how many words the first terms of a row take, of which so many are owed; all of them where words run out
@@ -17,16 +16,3 @@ unfoldable mutual
   pub passedPayload : List ℕ → ℕ → ℕ
   passedPayload [] owed = 0
   passedPayload (x ∷ l) owed = suc (passed l owed)
-
--- whether the first terms of a row are values, of which so many are owed; not where words run out
-unfoldable mutual
-  pub valuesIn : List ℕ → ℕ → Bool
-  valuesIn [] zero = true
-  valuesIn [] (suc owed) = false
-  valuesIn (w ∷ l) zero = true
-  valuesIn (w ∷ l) (suc owed) =
-      elim (eqb (tagOf w) tagInteger) [ true ↦ valuesPast l owed | false ↦ leb tagAtom (tagOf w) && leb (tagOf w) tagTuple && valuesIn l (arity (tagOf w) (nOf w) + owed) ]
-
-  pub valuesPast : List ℕ → ℕ → Bool
-  valuesPast [] owed = false
-  valuesPast (x ∷ l) owed = valuesIn l owed

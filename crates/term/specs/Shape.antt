@@ -1,11 +1,11 @@
--- Shape. 01: "the first word at which reading in order fails, the length if words run out". Assumes nothing: these are definitions.
+-- Shape. 01: "the first word at which reading in order fails, the length if words run out".
 use Prim.Native.Nat.{ℕ, suc}
 use mathlib.Core.Bool.{Bool, true, false}
 use mathlib.Core.Option.{Option, none, some}
 use mathlib.Core.List.{List, [], _∷_, _++_}
 use lib.Dec.{eqb}
 use Rattle.term.specs.Words.{tagOf, tagInteger}
-use Rattle.term.specs.Table.{fits, childSpots, spotFunction, spotExpression}
+use Rattle.term.specs.Table.{inModule, fits, childSpots, spotFunction, spotExpression}
 
 -- the spots to be filled next: those that wait, else those that a new term fills
 unfoldable pub wanted : List ℕ → List ℕ → List ℕ
@@ -34,9 +34,9 @@ unfoldable mutual
   shapePayload places new [] spots at = some at
   shapePayload places new (x ∷ l) spots at = shape places new l spots (suc at)
 
--- "A module is one or more functions": one is wanted, and another wherever one ends before the words do. A module has no places.
+-- "A module is one or more functions": one is wanted, and another wherever one ends before the words do.
 unfoldable pub moduleShape : List ℕ → Option ℕ
-moduleShape l = shape 0 (spotFunction ∷ []) l (spotFunction ∷ []) 0
+moduleShape l = shape inModule (spotFunction ∷ []) l (spotFunction ∷ []) 0
 
 -- a control is one expression, and may hold the pids of so many places
 unfoldable pub controlShape : ℕ → List ℕ → Option ℕ

@@ -1,4 +1,4 @@
--- The table of the 18 tags, and the spots where a tag may stand. Assumes nothing: these are definitions.
+-- The table of the 18 tags, and the spots where a tag may stand.
 use Prim.Native.Nat.{ℕ, suc}
 use mathlib.Core.Bool.{Bool, true, false, cond, not, _&&_}
 use mathlib.Core.List.{List, [], _∷_, _++_}
@@ -26,14 +26,14 @@ row least greatest limit children = record { least = least; greatest = greatest;
 abbrev pub noRow : Row
 noRow = row 0 0 0 alike
 
--- apply and spawn: any k, since only the rules know how many functions there are. A pid's limit is the number of places.
+-- apply and spawn: any k, since only the rules know how many functions there are
 unfoldable pub table : List Row
 table =
     noRow
     ∷ row 0 0 64 alike  -- 1 variable
     ∷ row 0 0 256 alike  -- 2 atom
     ∷ row 0 0 1 alike  -- 3 integer
-    ∷ row 0 0 16 alike  -- 4 pid
+    ∷ row 0 0 0 alike  -- 4 pid: as many k as there are places (`kLimit`)
     ∷ row 0 0 1 alike  -- 5 nil
     ∷ row 2 2 1 alike  -- 6 cons
     ∷ row 0 8 1 alike  -- 7 tuple
@@ -83,14 +83,17 @@ spotClause = 4
 abbrev pub spotValue : ℕ
 spotValue = 5
 
+-- how many places a module counts: none, so that no pid stands in it ("never in a module") and its guards hold no values
+abbrev pub inModule : ℕ
+inModule = 0
+
 -- "Patterns use tags 1, 2, 3, 5, 6, 7", "Guards use 1, 2, 3, 5, 8", "Values use tags 2 to 7"; a control's guard holds values too.
--- A pid is in the list of expressions: with no places, as in a module, it has no k.
 unfoldable pub tagsAt : ℕ → ℕ → List ℕ
 tagsAt places spot = getD (
     (tagFunction ∷ [])
     ∷ (tagVariable ∷ tagAtom ∷ tagInteger ∷ tagPid ∷ tagNil ∷ tagCons ∷ tagTuple ∷ tagCall ∷ tagApply ∷ tagCase ∷ tagLet ∷ tagReceive ∷ tagSpawn ∷ tagSend ∷ tagSelf ∷ tagCheck ∷ [])
     ∷ (tagVariable ∷ tagAtom ∷ tagInteger ∷ tagNil ∷ tagCons ∷ tagTuple ∷ [])
-    ∷ (tagVariable ∷ tagAtom ∷ tagInteger ∷ tagNil ∷ tagCall ∷ cond (eqb places 0) [] (tagPid ∷ tagCons ∷ tagTuple ∷ []))
+    ∷ (tagVariable ∷ tagAtom ∷ tagInteger ∷ tagNil ∷ tagCall ∷ cond (eqb places inModule) [] (tagPid ∷ tagCons ∷ tagTuple ∷ []))
     ∷ (tagClause ∷ [])
     ∷ (tagAtom ∷ tagInteger ∷ tagPid ∷ tagNil ∷ tagCons ∷ tagTuple ∷ [])
     ∷ []) spot []
@@ -98,7 +101,7 @@ tagsAt places spot = getD (
 unfoldable pub kLimit : ℕ → ℕ → ℕ
 kLimit places tag = cond (eqb tag tagPid) places (rowOf tag .limit)
 
--- the word may stand at this spot; there are so many places (none in a module)
+-- the word may stand at this spot, where there are so many places
 unfoldable pub fits : ℕ → ℕ → ℕ → Bool
 fits places spot w =
     member (tagOf w) (tagsAt places spot)

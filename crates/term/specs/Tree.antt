@@ -1,4 +1,4 @@
--- Terms as trees, and the words that stand for them in preorder. Assumes nothing: these are definitions.
+-- Terms as trees, and the words that stand for them in preorder.
 use Prim.Native.Nat.{ℕ, zero, suc, _<_}
 use mathlib.Core.Path.{_≡_}
 use mathlib.Core.List.{List, [], _∷_, _++_}

@@ -1,4 +1,4 @@
--- Values. Assumes nothing: these are definitions.
+-- Values.
 use mathlib.Core.Bool.{Bool, true, false, _&&_}
 use lib.Dec.{leb}
 use Rattle.term.specs.Words.{tagAtom, tagTuple}

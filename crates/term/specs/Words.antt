@@ -1,4 +1,4 @@
--- Words. 01: "A word is tag × 2^24 + n × 2^16 + k." Assumes nothing: these are definitions.
+-- Words. 01: "A word is tag × 2^24 + n × 2^16 + k."
 use Prim.Native.Nat.{ℕ, _+_, _*_, _/_, _%_}
 
 abbrev pub word : ℕ → ℕ → ℕ → ℕ

@@ -2,9 +2,4 @@
 pub mod WritingLaws
 pub mod DigitLaws
 pub mod SpacedLaws
-pub mod PieceLaws
-pub mod NumberLaws
-pub mod CommandLaws
 pub mod ListingLaws
-pub mod LongLines
-pub mod Outcomes

@@ -78,3 +78,7 @@ measured-fits w s h = let x = w .end-is in omega arith
 
 pub measured-over : {ws old new : List ℕ} {e room : ℕ} → Wrote ws 0 old new e → room < far → room < e → room < length ws
 measured-over w s h = let x = w .end-is in omega arith
+
+-- two outcomes that a writer's contract allows are equal
+pub wrote-same : {ws old new new′ : List ℕ} {at e e′ : ℕ} → Wrote ws at old new e → Wrote ws at old new′ e′ → (new ≡ new′) × (e ≡ e′)
+wrote-same w v = (w .new-is ∙ sym (v .new-is), w .end-is ∙ sym (v .end-is))

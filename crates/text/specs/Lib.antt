@@ -1,5 +1,3 @@
--- Command lines read, and lines written, as bytes.
+-- Lines written, as bytes.
 pub mod Lines
-pub mod Pieces
-pub mod Requests
 pub mod Written

@@ -1,4 +1,4 @@
--- The lines of the listing, on numbers and words. Assumes nothing: these are definitions.
+-- The lines of the listing, on numbers and words.
 use Prim.Native.Nat.{ℕ, _/_, _%_}
 use Prim.Native.String.{String}
 use mathlib.Core.List.{List, _++_, map}
@@ -39,9 +39,6 @@ newestLine newest = line "newest=" (newestBytes newest)
 
 unfoldable pub queueLine : List ℕ → List ℕ
 queueLine names = line "queue=" (spaced (map nameIn names))
-
-unfoldable pub flightLine : List ℕ → List ℕ
-flightLine names = line "flight=" (spaced (map nameIn names))
 
 unfoldable pub wordsLine : List ℕ → List ℕ
 wordsLine words = line "words=" (spaced (map hex words))

@@ -1,4 +1,4 @@
--- What the writers leave in a lent output. Assumes nothing: these are definitions.
+-- What the writers leave in a lent output.
 use Prim.Native.Nat.{ℕ, zero, suc, _+_, _<_, min}
 use mathlib.Core.Path.{_≡_}
 use mathlib.Core.List.{List, [], _∷_}

@@ -1,7 +1,5 @@
-// Texts as bytes: keys, numbers, command lines in, lines of the listing out.
+// Texts as bytes: keys, numbers, and lines written.
 pub mod keys;
-pub mod lines;
 pub mod listing;
-pub mod parsing;
 pub mod replies;
 pub mod writing;

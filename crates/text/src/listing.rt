@@ -1,5 +1,4 @@
 // The lines of the listing.
-use crate::keys::FLIGHT;
 use crate::keys::HISTORY;
 use crate::keys::KIND_CHECK;
 use crate::keys::KIND_NONE;
@@ -20,10 +19,11 @@ use crate::writing::write_gap;
 use crate::writing::write_line_feed;
 use crate::writing::write_name;
 use crate::writing::write_words;
+use rows::words::NAME_BASE;
 ghost use mathlib.Core.List.{map};
 ghost use Rattle.rules.specs.Text.{spaced};
 ghost use Rattle.text.specs.Written.{Wrote};
-ghost use Rattle.text.specs.Lines.{nameIn, processesLine, pidLine, historyLine, newestBytes, newestLine, queueLine, wordsLine, flightLine, processText};
+ghost use Rattle.text.specs.Lines.{nameIn, processesLine, pidLine, historyLine, newestBytes, newestLine, queueLine, wordsLine, processText};
 
 // The kind of a process's newest entry.
 pub enum Newest {
@@ -35,9 +35,6 @@ pub enum Newest {
     Check,
     Nothing,
 }
-
-// A name in a word: sender × 65536 + count.
-const NAME_BASE: u32 = 65536;
 
 // How many processes there are.
 pub fn write_processes(out: &mut [u8], at: usize, n: u32) -> usize
@@ -104,15 +101,6 @@ pub fn write_queue(out: &mut [u8], at: usize, names: &[u32]) -> usize
     ensures { λ r. ⌜ Wrote (queueLine (now (names .entry))) at (now (out .entry)) (now (out .exit)) r ⌝ }
 {
     let to = write_bytes(out, at, &QUEUE);
-    let end = write_names(out, to, names);
-    write_line_feed(out, end)
-}
-
-// The messages in flight, by sender, then count.
-pub fn write_flight(out: &mut [u8], at: usize, names: &[u32]) -> usize
-    ensures { λ r. ⌜ Wrote (flightLine (now (names .entry))) at (now (out .entry)) (now (out .exit)) r ⌝ }
-{
-    let to = write_bytes(out, at, &FLIGHT);
     let end = write_names(out, to, names);
     write_line_feed(out, end)
 }

@@ -10,6 +10,9 @@ ghost use Rattle.rules.specs.Text.{lineFeed, decimal};
 ghost use Rattle.rules.specs.Replies.{answerLine, undoneLine};
 ghost use Rattle.text.specs.Written.{Wrote};
 
+// Room for every reply: the longest, an accepted rollback's with a count of ten digits, has 27 bytes.
+pub const REPLY_ROOM: usize = 32;
+
 // A line of a key and a number.
 pub fn write_number_line(out: &mut [u8], at: usize, key: &[u8], n: u32) -> usize
     ensures { λ r. ⌜ Wrote (now (key .entry) ++ decimal n ++ (lineFeed ∷ [])) at (now (out .entry)) (now (out .exit)) r ⌝ }

@@ -4,5 +4,4 @@ pub mod SlotCode
 pub mod SpanLaws
 pub mod StoreWrites
 pub mod PostLaws
-pub mod EnterLaws
 pub mod UndoLaws

@@ -1,5 +1,5 @@
 -- A message more or less in a queue: what the code leaves is the image after.
-use Prim.Native.Nat.{ℕ, suc, _+_, _-_, _≤_, _<_}
+use Prim.Native.Nat.{ℕ, suc, _+_, _-_, _<_}
 use mathlib.Core.Path.{_≡_, refl, sym, _∙_, ap}
 use mathlib.Core.Bool.{true}
 use mathlib.Core.Logic.{inl, inr}
@@ -15,22 +15,18 @@ use Rattle.store.proofs.SoundStates.{in-places}
 use Rattle.store.proofs.LayoutLaws.{names-most}
 use Rattle.rules.specs.State.{Message, Process, State, inPool}
 use Rattle.rules.specs.Commands.{post, apply}
-use Rattle.rules.proofs.Frame.{process-of}
+use Rattle.demands.proofs.Frame.{process-of}
 use Rattle.store.specs.Image.{IsImage}
 use Rattle.store.specs.Layout.{slotHead, slotSize, nameWord, slotWords, presentSlot, placeSlots, image}
 use Rattle.store.proofs.Lengths.{length-slot}
 use Rattle.store.proofs.Moves.{post-elsewhere, post-slots}
 use Rattle.reading.specs.Reads.{Holds, OfState, IsPlace}
 use Rattle.writing.specs.declared.spans.Span.{Span}
-use Rattle.writing.specs.Slots.{pushed, without, within, Spanned, NamesRoom}
+use Rattle.writing.specs.Slots.{pushed, without, within, spanSize, Spanned, NamesRoom}
 use Rattle.writing.specs.Writes.{Leads, Posts, Unposts, CanPost, CanTake}
 use Rattle.reading.proofs.Holding.{of-image, at-image, holding, of-state}
 use Rattle.writing.proofs.SlotWrites.{names-count, withNames, pushed-slot, without-slot}
 use Rattle.writing.proofs.StoreWrites.{queue-few, present-lent, present-changed}
-
--- the span's length as the code has it
-pub span-size : {p i : ℕ} {l : List ℕ} {r : Span} → Spanned p i l r → r .«end» - r .from ≡ r .size
-span-size at = omega (arith, at .adds)
 
 pub posting-place : (l : List ℕ) (t : ℕ) → OfState l (CanPost t) → OfState l (IsPlace t)
 posting-place l t f = of-state _ λ s rest h. in-places s (h .sound) t (holding _ f s rest h .lives)
@@ -41,9 +37,6 @@ queued-lives s sound p h = elim (true-or-false (inPool s p)) [ inl t ↦ t | inr
 
 pub taking-place : (l : List ℕ) (p : ℕ) → OfState l (CanTake p 0) → OfState l (IsPlace p)
 taking-place l p f = of-state _ λ s rest h. in-places s (h .sound) p (queued-lives s (h .sound) p (holding _ f s rest h))
-
-pub no-entry : (l : List ℕ) → OfState l (λ s. 0 ≤ s .sizes .entries)
-no-entry l = of-state _ λ s rest h. omega arith
 
 -- the names of a queue without the last
 newest-gone : (queue : List Message) → 0 < length queue → take (length queue - 1) (map nameWord queue) ++ drop (suc (length queue - 1)) (map nameWord queue) ≡ map nameWord (butLast queue)
@@ -61,7 +54,7 @@ module _ (l : List ℕ) (p : ℕ) (r : Span) (at : Spanned p 0 l r) where
       → midOf (r .from) (r .«end» - r .from) l ≡ slotWords (s .sizes) (presentSlot process (s .queues p))
   lent s rest h process e hp =
       let x = holding _ (at .there) s rest h in
-      ap (λ (k : ℕ). midOf (r .from) k l) (span-size at) ∙ present-lent s p process e rest l (h .words) (r .from) (r .size) hp (x .from-is) (x .size-is)
+      present-lent s p process e rest l (h .words) (r .from) (spanSize r) hp (x .from-is) (x .size-is)
 
   -- its names have room
   names-fit : (s : State) (rest : List ℕ) → Holds l s rest → (process : Process) → s .processes p ≡ some process → p < s .sizes .places
@@ -98,9 +91,8 @@ module _ (l : List ℕ) (p : ℕ) (r : Span) (at : Spanned p 0 l r) where
       let queue = s .queues p in
       let queue′ = queue ++ (to .message ∷ []) in
       let names : map nameWord queue ++ (name ∷ []) ≡ map nameWord queue′ = ap (λ (n : ℕ). map nameWord queue ++ (n ∷ [])) (sym (to .named)) ∙ sym (map-append nameWord queue (to .message ∷ [])) in
-      (λ i. putMid (r .from) (span-size at i) l (ey i))
-      ∙ ap (λ (k : ℕ). putMid (r .from) (r .size) l (pushed (r .words) name (midOf (r .from) k l))) (span-size at)
-      ∙ present-changed s p process e rest l (h .words) (r .from) (r .size) (in-places s (h .sound) p (can .lives)) (x .from-is) (x .size-is)
+      ap (putMid (r .from) (spanSize r) l) ey
+      ∙ present-changed s p process e rest l (h .words) (r .from) (spanSize r) (in-places s (h .sound) p (can .lives)) (x .from-is) (x .size-is)
       (pushed (r .words) name) (presentSlot process queue′) (apply (post p queue′) s)
       (pushed-slot (s .sizes) (presentSlot process queue) (r .words) name (x .words-are) ∙ ap (λ (ns : List ℕ). slotWords (s .sizes) (withNames ns (presentSlot process queue))) names)
       (post-elsewhere p s queue′)
@@ -132,9 +124,9 @@ module _ (l : List ℕ) (p : ℕ) (r : Span) (at : Spanned p 0 l r) where
       let z = presentSlot process queue in
       let count = names-fit s rest h process e hp .1 in
       let few = queue-few s p process e (h .sound) in
-      (λ i. putMid (r .from) (span-size at i) l (ey i))
-      ∙ (λ i. putMid (r .from) (r .size) l (without (r .words) (count i - 1) (midOf (r .from) (span-size at i) l)))
-      ∙ present-changed s p process e rest l (h .words) (r .from) (r .size) hp (x .from-is) (x .size-is)
+      ap (putMid (r .from) (spanSize r) l) ey
+      ∙ (λ i. putMid (r .from) (spanSize r) l (without (r .words) (count i - 1) (midOf (r .from) (spanSize r) l)))
+      ∙ present-changed s p process e rest l (h .words) (r .from) (spanSize r) hp (x .from-is) (x .size-is)
       (without (r .words) (length queue - 1)) (presentSlot process queue′) (apply (post p queue′) s)
       (without-slot (s .sizes) z (r .words) (length queue - 1) (x .words-are) (omega (arith, length-map queue nameWord)) few
       ∙ ap (λ (ns : List ℕ). slotWords (s .sizes) (withNames ns z)) (newest-gone queue can))

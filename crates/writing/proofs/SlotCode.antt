@@ -1,6 +1,6 @@
 -- What the code leaves of a slot, where parts of it are lent and come back filled.
 use Prim.Native.Nat.{ℕ, zero, suc, _+_, _-_, _≤_, _<_}
-use mathlib.Core.Path.{_≡_, refl, sym, _∙_, ap, subst}
+use mathlib.Core.Path.{_≡_, refl, sym, _∙_, ap}
 use mathlib.Core.List.{List, [], _∷_}
 use native.Mathlib.Omega.{arith}
 use lib.ListN.{length, drop, getD, set, length-drop, length-set}
@@ -8,8 +8,8 @@ use lib.Seq.{length-take-le}
 use borrow.Rule.Slice.PartMut.{midOf, putMid, same-len-mid}
 use Rattle.lists.specs.Fill.{fillTo}
 use Rattle.lists.proofs.Fill.{fill-set}
-use Rattle.store.specs.Layout.{slotHead, kindRec, kindLive}
-use Rattle.writing.specs.Slots.{headed, controlled, without, within, copied, cleared, grownWords, keptWords, tookWords, shrunkWords, releasedWords, ControlRoom, NamesRoom, CopyRoom, InRoom, TwoSlots, TakeRoom}
+use Rattle.store.specs.Layout.{slotHead, kindLive}
+use Rattle.writing.specs.Slots.{headed, controlled, without, copied, cleared, shrunkWords, releasedWords, ControlRoom, NamesRoom, CopyRoom, TwoSlots}
 
 module _ {A : Type 0} where
   -- filled twice is filled once, where nothing is cut
@@ -102,28 +102,6 @@ zero-filled zero y e = e
 zero-filled (suc n) y e = e
 
 -- ---- a store after two writes
-
-pub grow-written : (l l₁ y next : List ℕ) (from «end» to words kind number : ℕ) → l₁ ≡ copied from to (slotHead + words) kind number 0 l → y ≡ controlled words next (midOf from («end» - from) l₁)
-    → putMid from («end» - from) l₁ y ≡ grownWords from «end» to words kind number next l
-unfolding grownWords within
-grow-written l l₁ y next from «end» to words kind number e₁ ey =
-    let k = «end» - from in ap (putMid from k l₁) ey ∙ ap (λ (v : List ℕ). putMid from k v (controlled words next (midOf from k v))) e₁
-
-module _ (l l₁ next : List ℕ) (from «end» to words place : ℕ) (e₁ : l₁ ≡ copied from to («end» - from) kindRec place (getD l (from + 4) 0) l) where
-  pub take-written : (y : List ℕ) → y ≡ controlled words next (without words place (midOf from («end» - from) l₁)) → putMid from («end» - from) l₁ y ≡ tookWords from «end» to words place next l
-  unfolding tookWords keptWords within
-  take-written y ey = let k = «end» - from in ap (putMid from k l₁) ey ∙ ap (λ (v : List ℕ). putMid from k v (controlled words next (without words place (midOf from k v)))) e₁
-
-  pub take-in : TakeRoom from «end» to words place next l → length l₁ ≡ length l → InRoom words place next (midOf from («end» - from) l₁)
-  unfolding keptWords
-  take-in room long =
-      let k = «end» - from in
-      let slots = room .slots in
-      record {
-        names = subst (λ (v : List ℕ). NamesRoom words (midOf from k v)) (sym e₁) (room .names);
-        one = subst (λ (v : List ℕ). place < getD (midOf from k v) 4 0) (sym e₁) (room .one);
-        control-room = record { within-slot = omega (arith, mid-long from k l₁ (omega (arith, slots .head-in, slots .inside)), slots .head-in); short = room .short; few = slots .few };
-      }
 
 pub cleared-written : (l₁ l₂ y : List ℕ) (at «end» : ℕ) → at ≤ «end» → «end» ≤ length l₁ → l₁ ≡ l₂ → y ≡ fillTo (length (midOf at («end» - at) l₁)) 0 [] → putMid at («end» - at) l₁ y ≡ cleared at («end» - at) l₂
 unfolding cleared

@@ -11,7 +11,7 @@ use borrow.Rule.Slice.PartMut.{midOf, putMid}
 use Rattle.lists.proofs.Blocks.{block-in, mid-mid, put-put}
 use Rattle.rules.specs.State.{Entry, Process, State, historyOf, historyAt, inPool}
 use Rattle.rules.specs.Commands.{nothing, turn, apply}
-use Rattle.rules.proofs.Frame.{process-of}
+use Rattle.demands.proofs.Frame.{process-of}
 use Rattle.rules.specs.Sound.{Sound}
 use Rattle.store.specs.Layout.{blocksFrom, slotSize, slotCount, blockSize, namesRoom, nameWord, Slot, freeSlot, slotWords, entrySlot, presentSlot, placeSlots, slotsAt, block, image}
 use Rattle.store.proofs.Slots.{slot-back, slot-next}

@@ -27,12 +27,11 @@ use Rattle.store.proofs.Moves.{elsewhere-then, standing, turn-elsewhere, turn-s
 use Rattle.reading.specs.Reads.{Holds, OfState, IsPlace, IsEntry, OfEntry}
 use Rattle.reading.proofs.Holding.{of-image, holding, of-state}
 use Rattle.writing.specs.declared.spans.Span.{Span}
-use Rattle.writing.specs.Slots.{headed, within, copied, cleared, shrunkWords, releasedWords, Spanned}
+use Rattle.writing.specs.Slots.{headed, within, copied, cleared, shrunkWords, releasedWords, spanSize, Spanned}
 use Rattle.writing.specs.Writes.{Leads, Undoes, CanUndo}
 use Rattle.writing.proofs.SlotWrites.{names-count, headed-slot, front-slot}
 use Rattle.writing.proofs.SlotCode.{cleared-written}
 use Rattle.writing.proofs.StoreWrites.{slot-inside, slot-there, slot-put, present-word, present-changed, front-put, elsewhere-back}
-use Rattle.writing.proofs.PostLaws.{span-size}
 
 -- ---- what an accepted undo does
 
@@ -270,7 +269,7 @@ module _ (l : List ℕ) (p count : ℕ) (f : OfState l (CanUndo p)) (g : OfState
         let x = holding _ (at .there) s rest h in
         let x′ = holding _ (at′ .there) s rest h in
         shrunk-image s rest l (h .words) p (n .control) (n .entry) (n .older) (n .lives) (in-places s (h .sound) p (newest-lives n)) (omega (arith, ap length (newest-history n), h .sound .history-fits p))
-        (r′ .from) (r′ .size) (newest-at h n) (x′ .size-is) (r .from) (r′ .words) (r′ .«end») (x .from-is) (x′ .words-are) (span-size at′)
+        (r′ .from) (spanSize r′) (newest-at h n) (x′ .size-is) (r .from) (r′ .words) (r′ .«end») (x .from-is) (x′ .words-are) refl
 
     pub undo-leads : (y : List ℕ) → ¬ (what ≡ kindRec) → ¬ (what ≡ kindSpawn) → y ≡ shrunkWords (r′ .from) (r′ .«end») (r .from) (r′ .words) l → Leads l y (Undoes p)
     unfolding Leads Undoes kindNumber
@@ -294,7 +293,7 @@ module _ (l : List ℕ) (p count : ℕ) (f : OfState l (CanUndo p)) (g : OfState
           | plain u v after ↦ absurd (u (sym kind ∙ is-rec))
           | gives b m a j after ↦
               released-image s rest l (h .words) p (n .control) (n .entry) (n .older) (n .lives) (in-places s (h .sound) p (newest-lives n)) (omega (arith, ap length (newest-history n), h .sound .history-fits p))
-              (r′ .from) (r′ .size) (newest-at h n) (x′ .size-is) (r .from) (r′ .words) (r′ .«end») (x .from-is) (x′ .words-are) (span-size at′) b m a j
+              (r′ .from) (spanSize r′) (newest-at h n) (x′ .size-is) (r .from) (r′ .words) (r′ .«end») (x .from-is) (x′ .words-are) refl b m a j
               ∙ ap (λ (z : State). image z ++ rest) (sym after)
           | frees child j t after ↦ absurd (omega (arith, kind, is-rec, ap kindNumber j))
         ]
@@ -335,6 +334,5 @@ module _ (l : List ℕ) (p count : ℕ) (f : OfState l (CanUndo p)) (g : OfState
           let apart : ¬ (p ≡ child) = λ same. absurd (omega (arith, ap (λ (o : Option Process). length (historyOf o)) (sym (n .lives) ∙ ap (s .processes) same ∙ gone .0 .is-there))) in
           let still : Fresh s₁ child = record { first = gone .0 .first; is-there = put-other p (some after) (s .processes) child apart ∙ gone .0 .is-there } in
           cleared-written l₁ l₁ y (r₃ .from) (r₃ .«end») (omega (arith, at₃ .adds)) (omega (arith, at₃ .inside)) refl ey
-          ∙ ap (λ (j : ℕ). cleared (r₃ .from) j l₁) (span-size at₃)
-          ∙ child-cleared s₁ rest l₁ (e₁ ∙ shrunk-leads h n) child still (in-places s (h .sound) child (fresh-lives (gone .0))) (r₃ .from) (r₃ .size) (x₃ .from-is) (x₃ .size-is)
+          ∙ child-cleared s₁ rest l₁ (e₁ ∙ shrunk-leads h n) child still (in-places s (h .sound) child (fresh-lives (gone .0))) (r₃ .from) (spanSize r₃) (x₃ .from-is) (x₃ .size-is)
           ∙ ap (λ (z : State). image z ++ rest) (sym (gone .1))

@@ -1,5 +1,4 @@
 // What a command writes into a store that is the image of a sound state.
-pub mod entering;
 pub mod posting;
 pub mod slots;
 pub mod spans;

@@ -2,6 +2,7 @@
 use crate::slots::drop_name;
 use crate::slots::push;
 use crate::spans::locate;
+use store::layout::SLOT_QUEUE;
 ghost use mathlib.Core.Path.{_≡_};
 ghost use Prim.Native.Nat.{_-_, _<_};
 ghost use lib.ListN.{getD};
@@ -26,7 +27,7 @@ fn drop_newest(slot: &mut [u32], words: usize)
     requires { ⌜ NamesRoom words (now slot) × (0 < getD (now slot) 4 0) ⌝ }
     ensures { λ _. ⌜ now (slot .exit) ≡ without words (getD (now (slot .entry)) 4 0 - 1) (now (slot .entry)) ⌝ }
 {
-    let place = slot[4] as usize - 1;
+    let place = slot[SLOT_QUEUE] as usize - 1;
     drop_name(slot, words, place);
 }
 

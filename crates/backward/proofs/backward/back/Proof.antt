@@ -14,16 +14,16 @@ same-length c = search needs
 returns : tie.Need-returns
 returns c = call-refuses _ _ (c .before .sound .ensures) _ (not-true _ (c .if1 .taken))
 
-back-held-requires : tie.Need-back-held-requires
-back-held-requires c κs = call-ready _ _ (c .before .before .sound .ensures) (not-false _ (c .before .if1 .left))
+back-sound-requires : tie.Need-back-sound-requires
+back-sound-requires c κs = call-ready _ _ (c .before .before .sound .ensures) (not-false _ (c .before .if1 .left))
 
 same-length-2 : tie.Need-same-length-2
 same-length-2 c = search needs
 
 returns-2 : tie.Need-returns-2
-returns-2 c = call-does _ _ (c .before .before .before .before .before .sound .ensures) _ _ _ (not-false _ (c .before .before .before .before .if1 .left)) (c .before .before .back-held .ensures)
+returns-2 c = call-does _ _ (c .before .before .before .before .before .sound .ensures) _ _ _ (not-false _ (c .before .before .before .before .if1 .left)) (c .before .before .back-sound .ensures)
 
 pub back-spec : {M : Type 1} → statement M
 back-spec =
     tie.close
-    (tie.spec sound-requires same-length returns back-held-requires same-length-2 returns-2)
+    (tie.spec sound-requires same-length returns back-sound-requires same-length-2 returns-2)

@@ -6,8 +6,9 @@ use Rattle.store.specs.Image.{IsImage}
 use Rattle.reading.specs.Reads.{OfState}
 use Rattle.reading.specs.declared.found.Found.{Found}
 use Rattle.reading.specs.declared.found.Found.the-variants.{At}
-use Rattle.rollback.specs.Going.{FindsCheck}
+use Rattle.rollback.specs.Undone.{FindsCheck}
 use Rattle.rollback.proofs.RollbackCalls.{call-elsewhere, call-away, call-without, call-back, call-place, call-happens}
+use Rattle.links.proofs.LinkWhole.{place-low}
 use borrow.Author.Needs.{needs}
 use Rattle.rollback.proofs.rollback.rollback.Statement.{statement}
 use Rattle.rollback.proofs.rollback.rollback.Tie as tie
@@ -56,19 +57,21 @@ returns-3 c =
     call-without (a .p) (a .t) (a .store .now) (is-image (c .before .before .before .before .before .before .before)) (c .before .before .before .before .before .in-pool .ensures) (not-false _ (c .before .before .before .before .if2 .left))
     (subst (λ (r : Found). OfState (a .store .now) (FindsCheck (a .p) (a .t) r)) (c .enum-told .given .1) (c .before .before .newest-check .ensures))
 
-mul-take-back : tie.Need-mul-take-back
-mul-take-back c = search needs
+entries-line-requires : tie.Need-entries-line-requires
+entries-line-requires c κs = let a = c .before .before .before .before .before .before .before .before .before .before .before .before .args in place-low _ (is-image (c .before .before .before .before .before .before .before .before)) _ (call-place _ (a .t) _ (c .before .before .before .before .before .before .in-pool .ensures) (not-false _ (c .before .before .before .before .before .if2 .left)))
 
 take-back-requires : tie.Need-take-back-requires
-take-back-requires c κs = (is-image (c .before .before .before .before .before .before .before .before .before), call-happens (c .before .before .before .before .before .before .before .before .before .before .before .before .before .args .p) (c .before .before .before .before .before .before .before .before .before .before .before .before .before .args .t) (c .before .before .before .before .before .before .before .before .before .before .before .before .before .args .store .now) _ (found (c .before)))
+take-back-requires c κs =
+    let a = c .before .before .before .before .before .before .before .before .before .before .before .before .before .before .args in
+    (is-image (c .before .before .before .before .before .before .before .before .before .before), call-happens (a .p) (a .t) (a .store .now) _ _ (c .before .entries-line .ensures) (found (c .before .before)))
 
 same-length-4 : tie.Need-same-length-4
 same-length-4 c = search needs
 
 returns-4 : tie.Need-returns-4
 returns-4 c =
-    let a = c .before .before .before .before .before .before .before .before .before .before .before .before .before .before .before .before .args in
-    call-back (a .p) (a .t) (a .store .now) _ _ _ (is-image (c .before .before .before .before .before .before .before .before .before .before .before .before)) (c .before .before .before .before .before .before .before .before .before .before .in-pool .ensures) (not-false _ (c .before .before .before .before .before .before .before .before .before .if2 .left)) (found (c .before .before .before .before)) (c .before .before .take-back .ensures)
+    let a = c .before .before .before .before .before .before .before .before .before .before .before .before .before .before .before .before .before .args in
+    call-back (a .p) (a .t) (a .store .now) _ _ _ _ (c .before .before .before .before .entries-line .ensures) (is-image (c .before .before .before .before .before .before .before .before .before .before .before .before .before)) (c .before .before .before .before .before .before .before .before .before .before .before .in-pool .ensures) (not-false _ (c .before .before .before .before .before .before .before .before .before .before .if2 .left)) (found (c .before .before .before .before .before)) (c .before .before .take-back .ensures)
 
 pub rollback-spec : {M : Type 1} → statement M
 rollback-spec =
@@ -85,7 +88,7 @@ rollback-spec =
     enum-told
     same-length-3
     returns-3
-    mul-take-back
+    entries-line-requires
     take-back-requires
     same-length-4
     returns-4)

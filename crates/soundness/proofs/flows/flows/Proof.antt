@@ -7,22 +7,23 @@ use lib.Seq.{length-take-le}
 use borrow.Author.Needs.{needs}
 use Rattle.lists.specs.Lists.{All}
 use Rattle.lists.proofs.Blocks.{chop}
-use Rattle.soundness.specs.SoundTests.{Block, everyOf, placeFlows}
-use Rattle.soundness.proofs.SoundTestWalk.{first-in, behind-short, others-lent, each-first, each-next}
-use Rattle.soundness.proofs.SoundTestRun.{tests-yes, tests-no, tests-done}
+use Rattle.slots.specs.SoundTests.{Block, everyOf}
+use Rattle.soundness.specs.MessageTests.{placeFlows}
+use Rattle.slots.proofs.SoundTestWalk.{first-in, behind-short, others-lent, each-first, each-next}
+use Rattle.slots.proofs.SoundTestRun.{tests-yes, tests-no, tests-done}
 use Rattle.soundness.proofs.flows.flows.Statement.{statement}
 use Rattle.soundness.proofs.flows.flows.Tie as tie
 
 abbrev Inv-loop : tie.InvT-loop
-Inv-loop blocks places len count size words t₀ left₀ t left =
-    (length t ≡ left * len) × (length t ≤ length blocks) × All (Block words size count) (chop left len t) × (everyOf (placeFlows words size count) (chop places len blocks) ≡ everyOf (placeFlows words size count) (chop left len t))
+Inv-loop blocks sizes len t₀ left₀ t left =
+    (length t ≡ left * (sizes .block)) × (length t ≤ length blocks) × All (Block (sizes .words) (sizes .slot) (sizes .entries)) (chop left (sizes .block) t) × (everyOf (placeFlows (sizes .words) (sizes .slot) (sizes .entries)) (chop (sizes .places) (sizes .block) blocks) ≡ everyOf (placeFlows (sizes .words) (sizes .slot) (sizes .entries)) (chop left (sizes .block) t))
 
 abbrev μ-loop : tie.MeasureT-loop
-μ-loop blocks places len count size words t₀ left₀ t left = left
+μ-loop blocks sizes len t₀ left₀ t left = left
 
 -- in a turn: a block is left, and it lies within t
-fits : (c : tie.In-loop Inv-loop μ-loop) → c .before .before .before .args .len ≤ length (c .before .loop .t .now)
-fits c = first-in (c .before .loop .left) (c .before .before .before .args .len) (length (c .before .loop .t .now)) (c .before .loop .inv .0) (c .loop-test .taken)
+fits : (c : tie.In-loop Inv-loop μ-loop) → c .before .before .before .args .sizes .block ≤ length (c .before .loop .t .now)
+fits c = first-in (c .before .loop .left) (c .before .before .before .args .sizes .block) (length (c .before .loop .t .now)) (c .before .loop .inv .0) (c .loop-test .taken)
 
 loop-holds : tie.Need-loop-holds Inv-loop μ-loop
 loop-holds c = (c .before .pre .0, omega arith, c .before .pre .1, refl)
@@ -34,8 +35,15 @@ place-flows-requires : tie.Need-place-flows-requires Inv-loop μ-loop
 place-flows-requires c κs =
     let a = c .before .before .before .before .args in
     let l = c .before .before .loop in
-    let x = each-first (Block (a .words) (a .size) (a .count)) (l .left) (a .len) (l .t .now) (l .inv .2) (c .before .loop-test .taken) in
+    let x = each-first (Block (a .sizes .words) (a .sizes .slot) (a .sizes .entries)) (l .left) (a .sizes .block) (l .t .now) (l .inv .2) (c .before .loop-test .taken) in
     (x .present-fits, x .first-fits, x .slots)
+
+returns : tie.Need-returns Inv-loop μ-loop
+unfolding placeFlows
+returns c =
+    let a = c .before .before .before .before .before .before .args in
+    let l = c .before .before .before .before .loop in
+    tests-no (placeFlows (a .sizes .words) (a .sizes .slot) (a .sizes .entries)) _ (a .sizes .block) (l .left) (l .t .now) (l .inv .3) _ (c .before .before .before .loop-test .taken) (c .before .place-flows .ensures) (c .if1 .taken)
 
 mul-t : tie.Need-mul-t Inv-loop μ-loop
 mul-t c = omega (arith, fits (c .before .before .before))
@@ -61,20 +69,13 @@ loop-again c =
     let a = c .before .before .before .before .before .before .before .args in
     let l = c .before .before .before .before .before .loop in
     let some = c .before .before .before .before .loop-test .taken in
-    (others-lent (l .left) (a .len) (l .t .now) (l .inv .0) some, (let s = behind-short (a .len) (l .t .now) in omega (arith, l .inv .1)), each-next (Block (a .words) (a .size) (a .count)) (l .left) (a .len) (l .t .now) (l .inv .2) some, tests-yes (placeFlows (a .words) (a .size) (a .count)) _ (a .len) (l .left) (l .t .now) (l .inv .3) _ some (c .before .before .place-flows .ensures) (c .before .if1 .taken))
-
-returns : tie.Need-returns Inv-loop μ-loop
-unfolding placeFlows
-returns c =
-    let a = c .before .before .before .before .before .before .args in
-    let l = c .before .before .before .before .loop in
-    tests-no (placeFlows (a .words) (a .size) (a .count)) _ (a .len) (l .left) (l .t .now) (l .inv .3) _ (c .before .before .before .loop-test .taken) (c .before .place-flows .ensures) (c .if1 .left)
+    (others-lent (l .left) (a .sizes .block) (l .t .now) (l .inv .0) some, (let s = behind-short (a .sizes .block) (l .t .now) in omega (arith, l .inv .1)), each-next (Block (a .sizes .words) (a .sizes .slot) (a .sizes .entries)) (l .left) (a .sizes .block) (l .t .now) (l .inv .2) some, tests-yes (placeFlows (a .sizes .words) (a .sizes .slot) (a .sizes .entries)) _ (a .sizes .block) (l .left) (l .t .now) (l .inv .3) _ some (c .before .before .place-flows .ensures) (c .before .if1 .left))
 
 returns-2 : tie.Need-returns-2 Inv-loop μ-loop
 returns-2 c =
     let a = c .before .before .before .args in
     let l = c .before .loop in
-    tests-done (placeFlows (a .words) (a .size) (a .count)) _ (a .len) (l .left) (l .t .now) (l .inv .3) (c .loop-test .left)
+    tests-done (placeFlows (a .sizes .words) (a .sizes .slot) (a .sizes .entries)) _ (a .sizes .block) (l .left) (l .t .now) (l .inv .3) (c .loop-test .left)
 
 pub flows-spec : {M : Type 1} → statement M
 flows-spec =
@@ -85,6 +86,7 @@ flows-spec =
     loop-holds
     slice-aggregate-place-flows
     place-flows-requires
+    returns
     mul-t
     sub-t
     part-t-start
@@ -92,5 +94,4 @@ flows-spec =
     sub-left
     loop-less
     loop-again
-    returns
     returns-2)

@@ -19,6 +19,9 @@ slice-aggregate-begins c = sym (length-take-le _ _ (omega arith))
 begins-requires-2 : tie.Need-begins-requires-2
 begins-requires-2 c κs = search needs
 
+returns-2 : tie.Need-returns-2
+returns-2 c = search left-breaks
+
 add-begins : tie.Need-add-begins
 add-begins c = search needs
 
@@ -49,11 +52,8 @@ part-begins-end-2 c = search needs
 begins-requires-3 : tie.Need-begins-requires-3
 begins-requires-3 c κs = search needs
 
-returns-2 : tie.Need-returns-2
-returns-2 c = search left-rest
-
 returns-3 : tie.Need-returns-3
-returns-3 c = search left-breaks
+returns-3 c = search left-rest
 
 pub left-begins-spec : {M : Type 1} → statement M
 left-begins-spec =
@@ -63,6 +63,7 @@ left-begins-spec =
     returns
     slice-aggregate-begins
     begins-requires-2
+    returns-2
     add-begins
     mul-begins
     sub-begins
@@ -73,5 +74,4 @@ left-begins-spec =
     part-begins-start-2
     part-begins-end-2
     begins-requires-3
-    returns-2
     returns-3)

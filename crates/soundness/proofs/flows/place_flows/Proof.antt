@@ -8,27 +8,28 @@ use lib.ListN.{length, take, drop, getD}
 use borrow.Author.Needs.{needs}
 use Rattle.lists.proofs.Blocks.{chop}
 use Rattle.store.specs.Layout.{slotHead}
-use Rattle.soundness.specs.SoundTests.{Slots, namesIn, leftBegins, flowsOn}
+use Rattle.slots.specs.SoundTests.{Slots, namesIn}
+use Rattle.soundness.specs.MessageTests.{leftBegins, flowsOn}
 use Rattle.soundness.proofs.FlowTest.{going-rec, going-other, going-breaks, going-ends, present-names}
-use Rattle.soundness.proofs.SoundTestWalk.{behind, behind-short, slots-behind, slot-in, names-in, slots-next}
+use Rattle.slots.proofs.SoundTestWalk.{behind, behind-short, slots-behind, slot-in, names-in, slots-next}
 use Rattle.soundness.proofs.flows.place_flows.Statement.{statement}
 use Rattle.soundness.proofs.flows.place_flows.Tie as tie
 
 abbrev Inv-loop : tie.InvT-loop
-Inv-loop block count size words from before₀ taken₀ t₀ left₀ before taken t left =
-    Slots words size left t × (length t ≤ length block) × (flowsOn words 0 [] (chop count size (drop size block)) (namesIn words block) ≡ flowsOn words taken before (chop left size t) (namesIn words block))
+Inv-loop block size words from before₀ taken₀ t₀ left₀ before taken t left =
+    Slots words size left t × (length t ≤ length block) × (flowsOn words 0 [] (chop left₀ size (drop size block)) (namesIn words block) ≡ flowsOn words taken before (chop left size t) (namesIn words block))
 
 abbrev μ-loop : tie.MeasureT-loop
-μ-loop block count size words from before₀ taken₀ t₀ left₀ before taken t left = left
+μ-loop block size words from before₀ taken₀ t₀ left₀ before taken t left = left
 
 -- in a turn: a slot is left, and it lies within t with its names
 facts : (c : tie.In-loop Inv-loop μ-loop)
-    → (c .before .before .before .before .before .args .size ≤ length (c .before .loop .t .now))
-    × (slotHead + c .before .before .before .before .before .args .words + getD (c .before .loop .t .now) 4 0 ≤ c .before .before .before .before .before .args .size)
+    → (c .before .before .before .before .before .args .sizes .slot ≤ length (c .before .loop .t .now))
+    × (slotHead + c .before .before .before .before .before .args .sizes .words + getD (c .before .loop .t .now) 4 0 ≤ c .before .before .before .before .before .args .sizes .slot)
 facts c =
     let l = c .before .loop in
     let a = c .before .before .before .before .before .args in
-    (slot-in (a .words) (a .size) (l .left) (l .t .now) (l .inv .0) (c .loop-test .taken), names-in (a .words) (a .size) (l .left) (l .t .now) (l .inv .0) (c .loop-test .taken))
+    (slot-in (a .sizes .words) (a .sizes .slot) (l .left) (l .t .now) (l .inv .0) (c .loop-test .taken), names-in (a .sizes .words) (a .sizes .slot) (l .left) (l .t .now) (l .inv .0) (c .loop-test .taken))
 
 add-from : tie.Need-add-from Inv-loop μ-loop
 add-from c = search needs
@@ -57,7 +58,7 @@ part-t-end c = search needs
 loop-holds : tie.Need-loop-holds Inv-loop μ-loop
 loop-holds c =
     let a = c .before .before .before .args in
-    (slots-behind (a .words) (a .size) (a .count) (a .block .now) (c .before .before .before .pre .2), behind-short (a .size) (a .block .now), ap (λ (r : List ℕ). flowsOn (a .words) 0 [] (chop (a .count) (a .size) r) (namesIn (a .words) (a .block .now))) (sym (behind (a .size) (a .block .now))))
+    (slots-behind (a .sizes .words) (a .sizes .slot) (a .sizes .entries) (a .block .now) (c .before .before .before .pre .2), behind-short (a .sizes .slot) (a .block .now), ap (λ (r : List ℕ). flowsOn (a .sizes .words) 0 [] (chop (a .sizes .entries) (a .sizes .slot) r) (namesIn (a .sizes .words) (a .block .now))) (sym (behind (a .sizes .slot) (a .block .now))))
 
 shared-slice-read-if1 : tie.Need-shared-slice-read-if1 Inv-loop μ-loop
 shared-slice-read-if1 c = let f = facts (c .before) in omega (arith, f .0, f .1)
@@ -86,14 +87,14 @@ part-names-end c = let f = facts (c .before .before .before) in omega (arith, f 
 left-begins-requires : tie.Need-left-begins-requires Inv-loop μ-loop
 left-begins-requires c κs = search needs
 
+returns : tie.Need-returns Inv-loop μ-loop
+returns c = search going-breaks
+
 shared-slice-read-taken : tie.Need-shared-slice-read-taken Inv-loop μ-loop
 shared-slice-read-taken c = let f = facts (c .before .before .before .before .before .before .before) in omega (arith, f .0, f .1)
 
 cast-taken : tie.Need-cast-taken Inv-loop μ-loop
 cast-taken c = omega (arith, c .shared-slice-known4 .given 2)
-
-returns : tie.Need-returns Inv-loop μ-loop
-returns c = search going-breaks
 
 mul-t-2 : tie.Need-mul-t-2 Inv-loop μ-loop
 mul-t-2 c = let f = facts (c .before .before) in omega (arith, f .0, f .1)
@@ -118,13 +119,13 @@ loop-again c =
     let a = c .before .before .before .before .before .before .before .before .args in
     let l = c .before .before .before .before .loop in
     let some = c .before .before .before .loop-test .taken in
-    let names = namesIn (a .words) (a .block .now) in
-    let others = chop (l .left - 1) (a .size) (take (length (l .t .now) - a .size) (drop (a .size) (l .t .now))) in (
-      slots-next (a .words) (a .size) (l .left) (l .t .now) (l .inv .0) some,
-      (let b = behind-short (a .size) (l .t .now) in omega (arith, l .inv .1)),
+    let names = namesIn (a .sizes .words) (a .block .now) in
+    let others = chop (l .left - 1) (a .sizes .slot) (take (length (l .t .now) - a .sizes .slot) (drop (a .sizes .slot) (l .t .now))) in (
+      slots-next (a .sizes .words) (a .sizes .slot) (l .left) (l .t .now) (l .inv .0) some,
+      (let b = behind-short (a .sizes .slot) (l .t .now) in omega (arith, l .inv .1)),
       ⊎-elim
-          (λ w. (let queue = sym (w .6) in let number = sym (w .7) in going-rec _ (a .words) (a .size) (l .left) (l .taken) (l .before .now) (l .t .now) names (l .inv .0) (l .inv .2) _ some (w .0 .taken) (w .3 .ensures) (w .4 .taken) ∙ λ i. flowsOn (a .words) (number i) (queue i .now) others names))
-          (λ w. (let queue = sym (w .1) in let number = sym (w .2) in going-other _ (a .words) (a .size) (l .left) (l .taken) (l .before .now) (l .t .now) names (l .inv .0) (l .inv .2) some (w .0 .left) ∙ λ i. flowsOn (a .words) (number i) (queue i .now) others names))
+          (λ w. (let queue = sym (w .6) in let number = sym (w .7) in going-rec _ (a .sizes .words) (a .sizes .slot) (l .left) (l .taken) (l .before .now) (l .t .now) names (l .inv .0) (l .inv .2) _ some (w .0 .taken) (w .3 .ensures) (w .4 .left) ∙ λ i. flowsOn (a .sizes .words) (number i) (queue i .now) others names))
+          (λ w. (let queue = sym (w .1) in let number = sym (w .2) in going-other _ (a .sizes .words) (a .sizes .slot) (l .left) (l .taken) (l .before .now) (l .t .now) names (l .inv .0) (l .inv .2) some (w .0 .left) ∙ λ i. flowsOn (a .sizes .words) (number i) (queue i .now) others names))
           (c .before .if1 .came),
     )
 
@@ -156,7 +157,7 @@ returns-2 : tie.Need-returns-2 Inv-loop μ-loop
 returns-2 c =
     let a = c .before .before .before .before .before .before .before .before .args in
     let l = c .before .before .before .before .loop in
-    going-ends _ (a .words) (a .size) (l .left) (l .taken) (l .before .now) (l .t .now) (namesIn (a .words) (a .block .now)) (l .inv .0) (l .inv .2) _ (c .before .before .before .loop-test .left) (c .left-begins2 .ensures ∙ ap (leftBegins (l .taken) (l .before .now)) (present-names (a .words) (a .block .now)))
+    going-ends _ (a .sizes .words) (a .sizes .slot) (l .left) (l .taken) (l .before .now) (l .t .now) (namesIn (a .sizes .words) (a .block .now)) (l .inv .0) (l .inv .2) _ (c .before .before .before .loop-test .left) (c .left-begins2 .ensures ∙ ap (leftBegins (l .taken) (l .before .now)) (present-names (a .sizes .words) (a .block .now)))
 
 pub place-flows-spec : {M : Type 1} → statement M
 place-flows-spec =
@@ -182,9 +183,9 @@ place-flows-spec =
     part-names-start
     part-names-end
     left-begins-requires
+    returns
     shared-slice-read-taken
     cast-taken
-    returns
     mul-t-2
     sub-t-2
     part-t-start-2

@@ -9,7 +9,7 @@ use Rattle.soundness.proofs.messages.arrive.Statement.{statement}
 use Rattle.soundness.proofs.messages.arrive.Tie as tie
 
 -- where the send is noted, if its sender is a place and its count that of an entry
-noted-in : (c : tie.Else2) → c .before .before .args .name / nameBase * c .before .before .args .entries + c .before .before .args .name % nameBase < length (c .before .before .args .targets .now)
+noted-in : (c : tie.Else2) → c .before .before .args .name / nameBase * c .before .before .args .sizes .entries + c .before .before .args .name % nameBase < length (c .before .before .args .targets .now)
 noted-in c = name-in _ _ _ _ _ (c .before .before .pre .0) (c .before .if1 .left) (c .if2 .left)
 
 cast-sender : tie.Need-cast-sender

@@ -4,17 +4,18 @@ use mathlib.Core.Path.{_≡_, refl}
 use native.Mathlib.Omega.{arith}
 use lib.ListN.{length, drop}
 use borrow.Author.Needs.{needs}
-use Rattle.soundness.specs.SoundTests.{runAll, arriveOne, arriveAll}
-use Rattle.soundness.proofs.SoundTestRun.{words-yes, words-no, words-done}
+use Rattle.slots.specs.SoundTests.{runAll}
+use Rattle.soundness.specs.MessageTests.{arriveOne, arriveAll}
+use Rattle.slots.proofs.SoundTestRun.{words-yes, words-no, words-done}
 use Rattle.soundness.proofs.messages.arrive_all.Statement.{statement}
 use Rattle.soundness.proofs.messages.arrive_all.Tie as tie
 
 abbrev Inv-loop : tie.InvT-loop
-Inv-loop names place places entries targets₀ i₀ targets i =
-    (i ≤ length names) × (length targets ≡ length targets₀) × (arriveAll places entries place names targets₀ ≡ runAll (arriveOne places entries place) (drop i names) targets)
+Inv-loop names sizes place targets₀ i₀ targets i =
+    (i ≤ length names) × (length targets ≡ length targets₀) × (arriveAll (sizes .places) (sizes .entries) place names targets₀ ≡ runAll (arriveOne (sizes .places) (sizes .entries) place) (drop i names) targets)
 
 abbrev μ-loop : tie.MeasureT-loop
-μ-loop names place places entries targets₀ i₀ targets i = length names - i
+μ-loop names sizes place targets₀ i₀ targets i = length names - i
 
 loop-holds : tie.Need-loop-holds Inv-loop μ-loop
 unfolding arriveAll
@@ -29,6 +30,15 @@ shared-slice-read-arrive c = search needs
 arrive-requires : tie.Need-arrive-requires Inv-loop μ-loop
 arrive-requires c κs = search needs
 
+same-length : tie.Need-same-length Inv-loop μ-loop
+same-length c = search needs
+
+returns : tie.Need-returns Inv-loop μ-loop
+returns c =
+    let a = c .before .before .before .before .before .before .before .before .before .before .args in
+    let l = c .before .before .before .before .before .before .before .loop in
+    words-no (arriveOne (a .sizes .places) (a .sizes .entries) (a .place)) _ (a .names .now) (l .i) (l .targets) (l .inv .2) _ _ _ (omega arith) (c .before .before .before .arrive .ensures) (c .if1 .taken)
+
 add-i : tie.Need-add-i Inv-loop μ-loop
 add-i c = search needs
 
@@ -39,16 +49,7 @@ loop-again : tie.Need-loop-again Inv-loop μ-loop
 loop-again c =
     let a = c .before .before .before .before .before .before .before .before .before .before .args in
     let l = c .before .before .before .before .before .before .before .loop in
-    (omega arith, search needs, words-yes (arriveOne (a .places) (a .entries) (a .place)) _ (a .names .now) (l .i) (l .targets) (l .inv .2) _ _ (omega arith) (c .before .before .before .arrive .ensures) (c .if1 .taken))
-
-same-length : tie.Need-same-length Inv-loop μ-loop
-same-length c = search needs
-
-returns : tie.Need-returns Inv-loop μ-loop
-returns c =
-    let a = c .before .before .before .before .before .before .before .before .before .before .args in
-    let l = c .before .before .before .before .before .before .before .loop in
-    words-no (arriveOne (a .places) (a .entries) (a .place)) _ (a .names .now) (l .i) (l .targets) (l .inv .2) _ _ _ (omega arith) (c .before .before .before .arrive .ensures) (c .if1 .left)
+    (omega arith, search needs, words-yes (arriveOne (a .sizes .places) (a .sizes .entries) (a .place)) _ (a .names .now) (l .i) (l .targets) (l .inv .2) _ _ (omega arith) (c .before .before .before .arrive .ensures) (c .if1 .left))
 
 same-length-2 : tie.Need-same-length-2 Inv-loop μ-loop
 same-length-2 c = search needs
@@ -57,7 +58,7 @@ returns-2 : tie.Need-returns-2 Inv-loop μ-loop
 returns-2 c =
     let a = c .before .before .before .before .args in
     let l = c .before .loop in
-    words-done (arriveOne (a .places) (a .entries) (a .place)) _ (a .names .now) (l .i) (l .targets) (l .inv .2) (c .loop-test .left)
+    words-done (arriveOne (a .sizes .places) (a .sizes .entries) (a .place)) _ (a .names .now) (l .i) (l .targets) (l .inv .2) (c .loop-test .left)
 
 pub arrive-all-spec : {M : Type 1} → statement M
 arrive-all-spec =
@@ -69,10 +70,10 @@ arrive-all-spec =
     mul-arrive
     shared-slice-read-arrive
     arrive-requires
+    same-length
+    returns
     add-i
     loop-less
     loop-again
-    same-length
-    returns
     same-length-2
     returns-2)

@@ -29,22 +29,22 @@ part-arrive-all-end : tie.Need-part-arrive-all-end
 part-arrive-all-end c = search needs
 
 arrive-all-requires : tie.Need-arrive-all-requires
-arrive-all-requires c κs = let p = c .before .before .before .before .before .pre in (p .1, p .2, p .3, p .4)
-
-arrive-taken-requires : tie.Need-arrive-taken-requires
-arrive-taken-requires c κs = let p = c .before .before .before .before .before .before .before .before .before .before .pre in (p .0 .block .first-fits, p .0 .block .slots, p .0 .taken, search needs, p .2, p .3, p .4)
+arrive-all-requires c κs = let p = c .before .before .before .before .before .before .pre in (p .1, p .2, p .3, p .4)
 
 same-length : tie.Need-same-length
 same-length c = search needs
 
 returns : tie.Need-returns
-returns c = search place-arrives
+returns c = search place-arrives-not
+
+arrive-taken-requires : tie.Need-arrive-taken-requires
+arrive-taken-requires c κs = let p = c .before .before .before .before .before .before .before .before .before .before .before .pre in (p .0 .block .first-fits, p .0 .block .slots, p .0 .taken, search needs, p .2, p .3, p .4)
 
 same-length-2 : tie.Need-same-length-2
 same-length-2 c = search needs
 
 returns-2 : tie.Need-returns-2
-returns-2 c = search place-arrives-not
+returns-2 c = search place-arrives
 
 pub arrive-place-spec : {M : Type 1} → statement M
 arrive-place-spec =
@@ -59,8 +59,8 @@ arrive-place-spec =
     part-arrive-all-start
     part-arrive-all-end
     arrive-all-requires
-    arrive-taken-requires
     same-length
     returns
+    arrive-taken-requires
     same-length-2
     returns-2)

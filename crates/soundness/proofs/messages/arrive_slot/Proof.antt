@@ -19,20 +19,20 @@ cast-arrive c = omega (arith, c .shared-slice-known3 .given 2)
 
 add-arrive-2 : tie.Need-add-arrive-2
 add-arrive-2 c =
-    let s = c .before .before .before .before .before in
-    let inside = s .pre .0 .taken-fits (c .before .if1 .taken) in
+    let s = c .before .before .before .before .before .before in
+    let inside = s .pre .0 .taken-fits (c .before .before .if1 .taken) in
     omega (arith, s .pre .0 .names-fit)
 
 mul-arrive : tie.Need-mul-arrive
 mul-arrive c =
-    let s = c .before .before .before .before .before in
-    let inside = s .pre .0 .taken-fits (c .before .if1 .taken) in
+    let s = c .before .before .before .before .before .before in
+    let inside = s .pre .0 .taken-fits (c .before .before .if1 .taken) in
     omega (arith, s .pre .0 .names-fit)
 
 shared-slice-read-arrive-2 : tie.Need-shared-slice-read-arrive-2
 shared-slice-read-arrive-2 c =
-    let s = c .before .before .before .before .before .before in
-    let inside = s .pre .0 .taken-fits (c .before .before .if1 .taken) in
+    let s = c .before .before .before .before .before .before .before in
+    let inside = s .pre .0 .taken-fits (c .before .before .before .if1 .taken) in
     omega (arith, s .pre .0 .names-fit)
 
 arrive-requires : tie.Need-arrive-requires

@@ -9,27 +9,28 @@ use borrow.Author.Needs.{needs}
 use Rattle.lists.specs.Lists.{All}
 use Rattle.lists.proofs.Blocks.{chop}
 use Rattle.store.specs.Layout.{slotHead}
-use Rattle.soundness.specs.SoundTests.{TakenFits, Slots, runAll, arriveSlot, arriveTaken}
-use Rattle.soundness.proofs.SoundTestWalk.{behind, behind-short, slots-behind, slot-in, head-in, slots-next, each-first, each-next}
-use Rattle.soundness.proofs.SoundTestRun.{slots-yes, slots-no, slots-done}
+use Rattle.slots.specs.SoundTests.{Slots, runAll}
+use Rattle.soundness.specs.MessageTests.{TakenFits, arriveSlot, arriveTaken}
+use Rattle.slots.proofs.SoundTestWalk.{behind, behind-short, slots-behind, slot-in, head-in, slots-next, each-first, each-next}
+use Rattle.slots.proofs.SoundTestRun.{slots-yes, slots-no, slots-done}
 use Rattle.soundness.proofs.messages.arrive_taken.Statement.{statement}
 use Rattle.soundness.proofs.messages.arrive_taken.Tie as tie
 
 abbrev Inv-loop : tie.InvT-loop
-Inv-loop block count size words place places entries targets₀ t₀ left₀ targets t left =
-    Slots words size left t × (length t ≤ length block) × All (TakenFits words) (chop left size t) × (length targets ≡ length targets₀) × (arriveTaken words size count places entries place block targets₀ ≡ runAll (arriveSlot words places entries place) (chop left size t) targets)
+Inv-loop block sizes place targets₀ size t₀ left₀ targets t left =
+    Slots (sizes .words) (sizes .slot) left t × (length t ≤ length block) × All (TakenFits (sizes .words)) (chop left (sizes .slot) t) × (length targets ≡ length targets₀) × (arriveTaken (sizes .words) (sizes .slot) (sizes .entries) (sizes .places) (sizes .entries) place block targets₀ ≡ runAll (arriveSlot (sizes .words) (sizes .places) (sizes .entries) place) (chop left (sizes .slot) t) targets)
 
 abbrev μ-loop : tie.MeasureT-loop
-μ-loop block count size words place places entries targets₀ t₀ left₀ targets t left = left
+μ-loop block sizes place targets₀ size t₀ left₀ targets t left = left
 
 -- in a turn: a slot is left, and it lies within t with its head
 facts : (c : tie.In-loop Inv-loop μ-loop)
-    → (c .before .before .before .before .before .args .size ≤ length (c .before .loop .t .now))
-    × (slotHead + c .before .before .before .before .before .args .words ≤ c .before .before .before .before .before .args .size)
+    → (c .before .before .before .before .before .args .sizes .slot ≤ length (c .before .loop .t .now))
+    × (slotHead + c .before .before .before .before .before .args .sizes .words ≤ c .before .before .before .before .before .args .sizes .slot)
 facts c =
     let l = c .before .loop in
     let a = c .before .before .before .before .before .args in
-    (slot-in (a .words) (a .size) (l .left) (l .t .now) (l .inv .0) (c .loop-test .taken), head-in (a .words) (a .size) (l .left) (l .t .now) (l .inv .0) (c .loop-test .taken))
+    (slot-in (a .sizes .words) (a .sizes .slot) (l .left) (l .t .now) (l .inv .0) (c .loop-test .taken), head-in (a .sizes .words) (a .sizes .slot) (l .left) (l .t .now) (l .inv .0) (c .loop-test .taken))
 
 mul-t : tie.Need-mul-t Inv-loop μ-loop
 mul-t c = search needs
@@ -48,7 +49,7 @@ unfolding arriveTaken
 loop-holds c =
     let a = c .before .before .before .args in
     let pre = c .before .before .before .pre in
-    (slots-behind (a .words) (a .size) (a .count) (a .block .now) (pre .1), behind-short (a .size) (a .block .now), subst (λ (r : List ℕ). All (TakenFits (a .words)) (chop (a .count) (a .size) r)) (sym (behind (a .size) (a .block .now))) (pre .2), refl, ap (λ (r : List ℕ). runAll (arriveSlot (a .words) (a .places) (a .entries) (a .place)) (chop (a .count) (a .size) r) (a .targets .now)) (sym (behind (a .size) (a .block .now))))
+    (slots-behind (a .sizes .words) (a .sizes .slot) (a .sizes .entries) (a .block .now) (pre .1), behind-short (a .sizes .slot) (a .block .now), subst (λ (r : List ℕ). All (TakenFits (a .sizes .words)) (chop (a .sizes .entries) (a .sizes .slot) r)) (sym (behind (a .sizes .slot) (a .block .now))) (pre .2), refl, ap (λ (r : List ℕ). runAll (arriveSlot (a .sizes .words) (a .sizes .places) (a .sizes .entries) (a .place)) (chop (a .sizes .entries) (a .sizes .slot) r) (a .targets .now)) (sym (behind (a .sizes .slot) (a .block .now))))
 
 slice-aggregate-arrive-slot : tie.Need-slice-aggregate-arrive-slot Inv-loop μ-loop
 slice-aggregate-arrive-slot c = sym (length-take-le _ _ (let f = facts (c .before) in omega (arith, f .0, f .1)))
@@ -57,7 +58,16 @@ arrive-slot-requires : tie.Need-arrive-slot-requires Inv-loop μ-loop
 arrive-slot-requires c κs =
     let s = c .before .before .before .before .before .before .before in
     let l = c .before .before .before .loop in
-    (each-first (TakenFits (s .args .words)) (l .left) (s .args .size) (l .t .now) (l .inv .2) (c .before .before .loop-test .taken), (let h = s .pre .3 in omega (arith, l .inv .3)), s .pre .4, s .pre .5, s .pre .6)
+    (each-first (TakenFits (s .args .sizes .words)) (l .left) (s .args .sizes .slot) (l .t .now) (l .inv .2) (c .before .before .loop-test .taken), (let h = s .pre .3 in omega (arith, l .inv .3)), s .pre .4, s .pre .5, s .pre .6)
+
+same-length : tie.Need-same-length Inv-loop μ-loop
+same-length c = search needs
+
+returns : tie.Need-returns Inv-loop μ-loop
+returns c =
+    let a = c .before .before .before .before .before .before .before .before .before .before .before .args in
+    let l = c .before .before .before .before .before .before .before .loop in
+    slots-no (arriveSlot (a .sizes .words) (a .sizes .places) (a .sizes .entries) (a .place)) _ (a .sizes .slot) (l .left) (l .t .now) (l .targets) (l .inv .4) _ _ _ (c .before .before .before .before .before .before .loop-test .taken) (c .before .before .before .arrive-slot .ensures) (c .if1 .taken)
 
 mul-t-2 : tie.Need-mul-t-2 Inv-loop μ-loop
 mul-t-2 c = let f = facts (c .before .before .before .before .before .before) in omega (arith, f .0, f .1)
@@ -82,16 +92,7 @@ loop-again c =
     let a = c .before .before .before .before .before .before .before .before .before .before .before .before .args in
     let l = c .before .before .before .before .before .before .before .before .loop in
     let some = c .before .before .before .before .before .before .before .loop-test .taken in
-    (slots-next (a .words) (a .size) (l .left) (l .t .now) (l .inv .0) some, (let s = behind-short (a .size) (l .t .now) in omega (arith, l .inv .1)), each-next (TakenFits (a .words)) (l .left) (a .size) (l .t .now) (l .inv .2) some, search needs, slots-yes (arriveSlot (a .words) (a .places) (a .entries) (a .place)) _ (a .size) (l .left) (l .t .now) (l .targets) (l .inv .4) _ _ some (c .before .before .before .before .arrive-slot .ensures) (c .before .if1 .taken))
-
-same-length : tie.Need-same-length Inv-loop μ-loop
-same-length c = search needs
-
-returns : tie.Need-returns Inv-loop μ-loop
-returns c =
-    let a = c .before .before .before .before .before .before .before .before .before .before .before .args in
-    let l = c .before .before .before .before .before .before .before .loop in
-    slots-no (arriveSlot (a .words) (a .places) (a .entries) (a .place)) _ (a .size) (l .left) (l .t .now) (l .targets) (l .inv .4) _ _ _ (c .before .before .before .before .before .before .loop-test .taken) (c .before .before .before .arrive-slot .ensures) (c .if1 .left)
+    (slots-next (a .sizes .words) (a .sizes .slot) (l .left) (l .t .now) (l .inv .0) some, (let s = behind-short (a .sizes .slot) (l .t .now) in omega (arith, l .inv .1)), each-next (TakenFits (a .sizes .words)) (l .left) (a .sizes .slot) (l .t .now) (l .inv .2) some, search needs, slots-yes (arriveSlot (a .sizes .words) (a .sizes .places) (a .sizes .entries) (a .place)) _ (a .sizes .slot) (l .left) (l .t .now) (l .targets) (l .inv .4) _ _ some (c .before .before .before .before .arrive-slot .ensures) (c .before .if1 .left))
 
 same-length-2 : tie.Need-same-length-2 Inv-loop μ-loop
 same-length-2 c = search needs
@@ -100,7 +101,7 @@ returns-2 : tie.Need-returns-2 Inv-loop μ-loop
 returns-2 c =
     let a = c .before .before .before .before .before .args in
     let l = c .before .loop in
-    slots-done (arriveSlot (a .words) (a .places) (a .entries) (a .place)) _ (a .size) (l .left) (l .t .now) (l .targets) (l .inv .4) (c .loop-test .left)
+    slots-done (arriveSlot (a .sizes .words) (a .sizes .places) (a .sizes .entries) (a .place)) _ (a .sizes .slot) (l .left) (l .t .now) (l .targets) (l .inv .4) (c .loop-test .left)
 
 pub arrive-taken-spec : {M : Type 1} → statement M
 arrive-taken-spec =
@@ -115,6 +116,8 @@ arrive-taken-spec =
     loop-holds
     slice-aggregate-arrive-slot
     arrive-slot-requires
+    same-length
+    returns
     mul-t-2
     sub-t-2
     part-t-start-2
@@ -122,7 +125,5 @@ arrive-taken-spec =
     sub-left
     loop-less
     loop-again
-    same-length
-    returns
     same-length-2
     returns-2)

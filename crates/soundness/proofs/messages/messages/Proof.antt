@@ -7,22 +7,22 @@ use lib.Seq.{length-take-le}
 use borrow.Author.Needs.{needs}
 use Rattle.lists.specs.Lists.{All}
 use Rattle.lists.proofs.Blocks.{chop}
-use Rattle.soundness.specs.SoundTests.{TakenBlock, arriveFrom}
-use Rattle.soundness.proofs.SoundTestWalk.{first-in, behind-short, others-lent, each-first, each-next}
+use Rattle.soundness.specs.MessageTests.{TakenBlock, arriveFrom}
+use Rattle.slots.proofs.SoundTestWalk.{first-in, behind-short, others-lent, each-first, each-next}
 use Rattle.soundness.proofs.MessageTest.{from-yes, from-no, from-done}
 use Rattle.soundness.proofs.messages.messages.Statement.{statement}
 use Rattle.soundness.proofs.messages.messages.Tie as tie
 
 abbrev Inv-loop : tie.InvT-loop
-Inv-loop blocks places len count size words entries targets₀ t₀ left₀ place₀ targets t left place =
-    (length t ≡ left * len) × (length t ≤ length blocks) × All (TakenBlock words size count) (chop left len t) × (length targets ≡ length targets₀) × (left + place ≡ places) × (arriveFrom words size count places entries 0 (chop places len blocks) targets₀ ≡ arriveFrom words size count places entries place (chop left len t) targets)
+Inv-loop blocks sizes targets₀ len t₀ left₀ place₀ targets t left place =
+    (length t ≡ left * (sizes .block)) × (length t ≤ length blocks) × All (TakenBlock (sizes .words) (sizes .slot) (sizes .entries)) (chop left (sizes .block) t) × (length targets ≡ length targets₀) × (left + place ≡ (sizes .places)) × (arriveFrom (sizes .words) (sizes .slot) (sizes .entries) (sizes .places) (sizes .entries) 0 (chop (sizes .places) (sizes .block) blocks) targets₀ ≡ arriveFrom (sizes .words) (sizes .slot) (sizes .entries) (sizes .places) (sizes .entries) place (chop left (sizes .block) t) targets)
 
 abbrev μ-loop : tie.MeasureT-loop
-μ-loop blocks places len count size words entries targets₀ t₀ left₀ place₀ targets t left place = left
+μ-loop blocks sizes targets₀ len t₀ left₀ place₀ targets t left place = left
 
 -- in a turn: a block is left, and it lies within t
-fits : (c : tie.In-loop Inv-loop μ-loop) → c .before .before .before .before .args .len ≤ length (c .before .loop .t .now)
-fits c = first-in (c .before .loop .left) (c .before .before .before .before .args .len) (length (c .before .loop .t .now)) (c .before .loop .inv .0) (c .loop-test .taken)
+fits : (c : tie.In-loop Inv-loop μ-loop) → c .before .before .before .before .args .sizes .block ≤ length (c .before .loop .t .now)
+fits c = first-in (c .before .loop .left) (c .before .before .before .before .args .sizes .block) (length (c .before .loop .t .now)) (c .before .loop .inv .0) (c .loop-test .taken)
 
 loop-holds : tie.Need-loop-holds Inv-loop μ-loop
 loop-holds c = (c .before .before .pre .0, omega arith, c .before .before .pre .1, refl, omega arith, refl)
@@ -35,8 +35,17 @@ arrive-place-requires c κs =
     let s = c .before .before .before .before .before .before in
     let l = c .before .before .before .loop in
     let some = c .before .before .loop-test .taken in
-    let x = each-first (TakenBlock (s .args .words) (s .args .size) (s .args .count)) (l .left) (s .args .len) (l .t .now) (l .inv .2) some in
+    let x = each-first (TakenBlock (s .args .sizes .words) (s .args .sizes .slot) (s .args .sizes .entries)) (l .left) (s .args .sizes .block) (l .t .now) (l .inv .2) some in
     (x, (let h = s .pre .2 in omega (arith, l .inv .3)), (let h = s .pre .3 in omega (arith, l .inv .4)), s .pre .3, s .pre .4)
+
+same-length : tie.Need-same-length Inv-loop μ-loop
+same-length c = search needs
+
+returns : tie.Need-returns Inv-loop μ-loop
+returns c =
+    let a = c .before .before .before .before .before .before .before .before .before .before .args in
+    let l = c .before .before .before .before .before .before .before .loop in
+    from-no (a .sizes .words) (a .sizes .slot) (a .sizes .entries) (a .sizes .places) (a .sizes .entries) (l .place) (a .sizes .block) (l .left) (l .t .now) (l .targets) _ (l .inv .5) _ _ _ (c .before .before .before .before .before .before .loop-test .taken) (c .before .before .before .arrive-place .ensures) (c .if1 .taken)
 
 mul-t : tie.Need-mul-t Inv-loop μ-loop
 mul-t c = omega (arith, fits (c .before .before .before .before .before .before))
@@ -64,16 +73,7 @@ loop-again c =
     let a = c .before .before .before .before .before .before .before .before .before .before .before .args in
     let l = c .before .before .before .before .before .before .before .before .loop in
     let some = c .before .before .before .before .before .before .before .loop-test .taken in
-    (others-lent (l .left) (a .len) (l .t .now) (l .inv .0) some, (let s = behind-short (a .len) (l .t .now) in omega (arith, l .inv .1)), each-next (TakenBlock (a .words) (a .size) (a .count)) (l .left) (a .len) (l .t .now) (l .inv .2) some, search needs, omega (arith, l .inv .4, some), from-yes (a .words) (a .size) (a .count) (a .places) (a .entries) (l .place) (a .len) (l .left) (l .t .now) (l .targets) _ (l .inv .5) _ _ some (c .before .before .before .before .arrive-place .ensures) (c .before .if1 .taken))
-
-same-length : tie.Need-same-length Inv-loop μ-loop
-same-length c = search needs
-
-returns : tie.Need-returns Inv-loop μ-loop
-returns c =
-    let a = c .before .before .before .before .before .before .before .before .before .before .args in
-    let l = c .before .before .before .before .before .before .before .loop in
-    from-no (a .words) (a .size) (a .count) (a .places) (a .entries) (l .place) (a .len) (l .left) (l .t .now) (l .targets) _ (l .inv .5) _ _ _ (c .before .before .before .before .before .before .loop-test .taken) (c .before .before .before .arrive-place .ensures) (c .if1 .left)
+    (others-lent (l .left) (a .sizes .block) (l .t .now) (l .inv .0) some, (let s = behind-short (a .sizes .block) (l .t .now) in omega (arith, l .inv .1)), each-next (TakenBlock (a .sizes .words) (a .sizes .slot) (a .sizes .entries)) (l .left) (a .sizes .block) (l .t .now) (l .inv .2) some, search needs, omega (arith, l .inv .4, some), from-yes (a .sizes .words) (a .sizes .slot) (a .sizes .entries) (a .sizes .places) (a .sizes .entries) (l .place) (a .sizes .block) (l .left) (l .t .now) (l .targets) _ (l .inv .5) _ _ some (c .before .before .before .before .arrive-place .ensures) (c .before .if1 .left))
 
 same-length-2 : tie.Need-same-length-2 Inv-loop μ-loop
 same-length-2 c = search needs
@@ -82,7 +82,7 @@ returns-2 : tie.Need-returns-2 Inv-loop μ-loop
 returns-2 c =
     let a = c .before .before .before .before .args in
     let l = c .before .loop in
-    from-done (a .words) (a .size) (a .count) (a .places) (a .entries) (l .place) (a .len) (l .left) (l .t .now) (l .targets) _ (l .inv .5) (c .loop-test .left)
+    from-done (a .sizes .words) (a .sizes .slot) (a .sizes .entries) (a .sizes .places) (a .sizes .entries) (l .place) (a .sizes .block) (l .left) (l .t .now) (l .targets) _ (l .inv .5) (c .loop-test .left)
 
 pub messages-spec : {M : Type 1} → statement M
 messages-spec =
@@ -93,6 +93,8 @@ messages-spec =
     loop-holds
     slice-aggregate-arrive-place
     arrive-place-requires
+    same-length
+    returns
     mul-t
     sub-t
     part-t-start
@@ -101,7 +103,5 @@ messages-spec =
     add-place
     loop-less
     loop-again
-    same-length
-    returns
     same-length-2
     returns-2)

@@ -4,7 +4,7 @@ use Rattle.step.proofs.control.send_next.Statement.{statement}
 use Rattle.step.proofs.control.send_next.Tie as tie
 use Rattle.step.proofs.RowSend.{sending-past, sending-written}
 use native.Mathlib.Omega.{arith}
-use Rattle.step.proofs.RowTerms.{skip-within}
+use Rattle.row_laws.proofs.RowTerms.{skip-within}
 use Prim.Native.Nat.{_+_}
 
 pub send-next-spec : {M : Type 1} → statement M

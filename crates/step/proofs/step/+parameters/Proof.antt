@@ -6,7 +6,7 @@ use borrow.Fn.PlainCycle.{Measures, is, falls, and}
 use Rattle.step.proofs.step.parameters.Reads as parameters
 use Rattle.step.proofs.step.parameters.Kinds as parameters-kinds
 use Rattle.step.proofs.step.+parameters.Lts-parameters as parameters-lts
-use Rattle.term.proofs.terms.skip.Reads as skip-reads
+use Rattle.rows.proofs.terms.skip.Reads as skip-reads
 use Rattle.step.proofs.step.+parameters.{statement}
 use Rattle.step.proofs.step.+parameters.Tie.{close}
 use Rattle.step.proofs.RowApply.{parameters-none, parameters-past, parameters-high, parameters-more}

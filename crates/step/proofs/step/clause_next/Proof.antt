@@ -4,7 +4,7 @@ use Rattle.step.proofs.step.clause_next.Statement.{statement}
 use Rattle.step.proofs.step.clause_next.Tie as tie
 use Rattle.step.proofs.RowStep.{clause-past, clause-written}
 use native.Mathlib.Omega.{arith}
-use Rattle.step.proofs.RowTerms.{skip-within}
+use Rattle.row_laws.proofs.RowTerms.{skip-within}
 use Prim.Native.Nat.{_+_}
 
 pub clause-next-spec : {M : Type 1} → statement M

@@ -1,5 +1,6 @@
 -- `post` meets its contract.
-use Rattle.writing.proofs.PostLaws.{posting-place, no-entry, post-room, post-leads}
+use Rattle.writing.proofs.SpanLaws.{no-entry}
+use Rattle.writing.proofs.PostLaws.{posting-place, post-room, post-leads}
 use borrow.Author.Needs.{needs}
 use Rattle.writing.proofs.posting.post.Statement.{statement}
 use Rattle.writing.proofs.posting.post.Tie as tie

@@ -1,5 +1,6 @@
 -- `unpost` meets its contract.
-use Rattle.writing.proofs.PostLaws.{taking-place, no-entry, unpost-room, unpost-leads}
+use Rattle.writing.proofs.SpanLaws.{no-entry}
+use Rattle.writing.proofs.PostLaws.{taking-place, unpost-room, unpost-leads}
 use borrow.Author.Needs.{needs}
 use Rattle.writing.proofs.posting.unpost.Statement.{statement}
 use Rattle.writing.proofs.posting.unpost.Tie as tie

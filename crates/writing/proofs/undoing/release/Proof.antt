@@ -4,8 +4,8 @@ use borrow.Author.Needs.{needs}
 use Rattle.writing.proofs.undoing.release.Statement.{statement}
 use Rattle.writing.proofs.undoing.release.Tie as tie
 
-add-from : tie.Need-add-from
-add-from c = search needs
+add-at : tie.Need-add-at
+add-at c = search needs
 
 mul-queued : tie.Need-mul-queued
 mul-queued c = search needs
@@ -44,7 +44,7 @@ pub release-spec : {M : Type 1} → statement M
 release-spec =
     tie.close
     (tie.spec
-    add-from
+    add-at
     mul-queued
     slice-read-queued
     sub-copy-slot

@@ -4,8 +4,8 @@ use borrow.Author.Needs.{needs}
 use Rattle.writing.proofs.undoing.shrink.Statement.{statement}
 use Rattle.writing.proofs.undoing.shrink.Tie as tie
 
-add-from : tie.Need-add-from
-add-from c = search needs
+add-at : tie.Need-add-at
+add-at c = search needs
 
 mul-queued : tie.Need-mul-queued
 mul-queued c = search needs
@@ -38,13 +38,13 @@ same-length : tie.Need-same-length
 same-length c = search needs
 
 returns : tie.Need-returns
-returns c = shrink-written _ _ _ _ _ _ _ (c .before .before .before .before .before .before .before .before .before .before .pre) (c .before .before .before .before .before .before .copy-slot .kept .0) (c .before .before .before .before .before .before .copy-slot .ensures) (c .before .before .clear .ensures)
+returns c = shrink-written _ _ _ _ _ _ _ (c .before .before .before .before .before .before .before .before .before .before .before .pre) (c .before .before .before .before .before .before .copy-slot .kept .0) (c .before .before .before .before .before .before .copy-slot .ensures) (c .before .before .clear .ensures)
 
 pub shrink-spec : {M : Type 1} → statement M
 shrink-spec =
     tie.close
     (tie.spec
-    add-from
+    add-at
     mul-queued
     slice-read-queued
     add-copy-slot

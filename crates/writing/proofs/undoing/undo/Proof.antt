@@ -1,7 +1,6 @@
 -- `undo` meets its contract.
 use native.Mathlib.Omega.{arith}
-use Rattle.writing.proofs.PostLaws.{no-entry}
-use Rattle.writing.proofs.EnterLaws.{two-slots}
+use Rattle.writing.proofs.SpanLaws.{no-entry, two-slots}
 use Rattle.writing.proofs.UndoLaws.{undoing-place, newest-index, some-entry, newest-entry, undo-leads, release-leads, child-place, unbear-leads}
 use borrow.Author.Needs.{needs}
 use Rattle.writing.proofs.undoing.undo.Statement.{statement}

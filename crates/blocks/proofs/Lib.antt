@@ -1,0 +1,2 @@
+-- Ends of outputs and of lines.
+pub mod Ends

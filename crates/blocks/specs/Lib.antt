@@ -1,0 +1,2 @@
+-- How much is read at once.
+pub mod Rooms

@@ -1,0 +1,11 @@
+pub mod MarkLaws
+pub mod StandLaws
+pub mod BindLaws
+pub mod WalkLaws
+pub mod LightLaws
+pub mod PlainLaws
+pub mod ControlLaws
+pub mod ModuleLaws
+pub mod FunctionLaws
+pub mod RuleLaws
+pub mod CheckLaws

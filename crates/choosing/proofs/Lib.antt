@@ -1,0 +1,2 @@
+-- Clauses in rows of words.
+pub mod RowClause

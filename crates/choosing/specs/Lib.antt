@@ -1,0 +1,2 @@
+-- What the code on clauses promises, on rows of words.
+pub mod Clausal

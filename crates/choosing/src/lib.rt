@@ -1,0 +1,2 @@
+// The clause that takes a value.
+pub mod clause;

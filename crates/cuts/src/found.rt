@@ -1,0 +1,5 @@
+// Which link or line was found.
+pub enum Found {
+    Nowhere,
+    At(usize),
+}

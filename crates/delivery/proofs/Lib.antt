@@ -1,0 +1,2 @@
+-- Deliver answers and leaves what `run` gives.
+pub mod Delivering

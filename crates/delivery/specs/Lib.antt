@@ -1,0 +1,1 @@
+-- Deliver promises what `calls` says of it, and no more is defined here.

@@ -1,0 +1,2 @@
+// Deliver on a store.
+pub mod delivery;

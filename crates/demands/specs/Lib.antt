@@ -1,0 +1,8 @@
+-- What is demanded of the rules.
+pub mod Demands
+pub mod Consequences
+pub mod RollbackDemands
+pub mod Limits
+pub mod Least
+pub mod CountIsSize
+pub mod SpawnFits

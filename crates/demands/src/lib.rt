@@ -1,0 +1,1 @@
+// No code: the theorems about the rules.

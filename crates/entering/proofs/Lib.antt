@@ -1,0 +1,3 @@
+-- What the functions of an entry more write is the image of the state after.
+pub mod EnterCode
+pub mod EnterLaws

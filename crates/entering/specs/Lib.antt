@@ -1,0 +1,2 @@
+-- An entry more, in words and in states.
+pub mod Entering

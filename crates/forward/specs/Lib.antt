@@ -1,2 +1,0 @@
--- What the functions of step, spawn and deliver promise.
-pub mod Forward

@@ -1,0 +1,2 @@
+// Standard input, taken line by line.
+pub mod reading;

@@ -1,0 +1,3 @@
+pub mod Conversation
+pub mod Input
+pub mod Performed

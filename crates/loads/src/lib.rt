@@ -1,0 +1,2 @@
+// Lines of a script that load.
+pub mod loads;

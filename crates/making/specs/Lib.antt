@@ -1,0 +1,2 @@
+-- What a process is about to do, its next control, and one entry more.
+pub mod Making

@@ -1,0 +1,3 @@
+-- Command lines read, as bytes.
+pub mod Pieces
+pub mod Requests

@@ -1,0 +1,3 @@
+// Command lines read.
+pub mod lines;
+pub mod parsing;

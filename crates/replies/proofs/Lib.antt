@@ -1,0 +1,3 @@
+-- Laws of replies, and of what a line asks for.
+pub mod ReplyRoom
+pub mod LineLaws

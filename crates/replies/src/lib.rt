@@ -1,0 +1,2 @@
+// What is printed for a command line.
+pub mod replies;

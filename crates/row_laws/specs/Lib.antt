@@ -1,0 +1,3 @@
+-- Terms in rows of words.
+pub mod Bounds
+pub mod Rows

@@ -1,0 +1,3 @@
+pub mod SpotLaws
+pub mod AlikeLaws
+pub mod ReadingLaws

@@ -1,0 +1,3 @@
+-- The tests of single slots and blocks.
+pub mod SoundTests
+pub mod SendTests

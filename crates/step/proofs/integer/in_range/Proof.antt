@@ -1,7 +1,0 @@
--- `in_range` meets its contract.
-use Rattle.step.proofs.RowInteger.{within, below}
-use Rattle.step.proofs.integer.in_range.Statement.{statement}
-use Rattle.step.proofs.integer.in_range.Tie as tie
-
-pub in-range-spec : {M : Type 1} → statement M
-in-range-spec = tie.close (tie.spec (λ c. search within) (λ c. search below))

@@ -1,0 +1,2 @@
+-- What the functions of step and spawn ask for.
+pub mod Stepping
