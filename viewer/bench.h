@@ -6,8 +6,8 @@
  * number but BENCH_DONE) leaves every word of the store and every byte of the output as it was.
  *
  * What the caller owes, since C does not check it: a pointer is valid and aligned for its whole count, never NULL (for a count of 0 any aligned
- * address that isn't NULL will do), and no slice that a call writes overlaps another slice of the same call. Nothing else is asked, but for the stack: bench_rollback and
- * a rollback by bench_line take some 141 KiB of it for their arrays, the other calls less. */
+ * address that isn't NULL will do), and no slice that a call writes overlaps another slice of the same call. Nothing else is asked, but for the
+ * stack: bench_rollback, and bench_line for a rollback, take some 141 KiB of it for their arrays alone. */
 #ifndef BENCH_H
 #define BENCH_H
 
