@@ -16,7 +16,7 @@ test:
 	bash .ci/run
 
 library:
-	rt staticlib bench
+	@tools/library
 
 viewer: library
 	$(CC) -std=c11 -O2 -Wall -Wextra -o viewer/viewer viewer/viewer.c target/staticlib/libbench.a

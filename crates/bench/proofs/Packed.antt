@@ -11,7 +11,8 @@ use Rattle.calls.proofs.Determined.{determined}
 use Rattle.calls.proofs.AnswerNumbers.{number-below}
 use Rattle.rules.specs.Commands.{Command}
 use Rattle.rules.specs.Line.{single, rollbackTo}
-use Rattle.bench.specs.Exports.{returned, ExportsDetermined}
+use Rattle.bench.specs.Exports.{returned}
+use Rattle.bench.specs.ExportsDetermined.{ExportsDetermined}
 
 number-small : (a : Answer) → numberOf a < valuePlace
 number-small a = omega (arith, number-below a)

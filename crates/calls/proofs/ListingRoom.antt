@@ -17,7 +17,7 @@ use Rattle.rules.specs.State.{Message, Process, State, historyOf, historyAt, in
 use Rattle.rules.specs.Flight.{Name, name, sends, taken, isFlying, flightOf, flight}
 use Rattle.rules.specs.Sound.{SentTo, Sound}
 use Rattle.rules.specs.Text.{bytes, decimal, hex, spaced, line}
-use Rattle.rules.specs.Listing.{newestName, messageText, flightText, processLines, listing}
+use Rattle.rules.specs.Listing.{newestName, messageText, flightText, processLines, listing, listingRoom}
 use Rattle.store.specs.Layout.{mostPlaces, mostWords, mostNames}
 use Rattle.store.specs.Image.{IsImage}
 use Rattle.store.specs.Loading.{Outcome}
@@ -26,7 +26,7 @@ use Rattle.store.proofs.Histories.{sends-few}
 use Rattle.store.proofs.SoundStates.{SizesIn, sizes-in, numbered}
 use Rattle.calls.specs.Calls.{written, ListingCall}
 use Rattle.calls.specs.Numbers.{Lists}
-use Rattle.calls.specs.ListingRoom.{listingRoom, ListingRoom}
+use Rattle.calls.specs.ListingRoom.{ListingRoom}
 use Rattle.calls.proofs.TextLengths.{AtMost, nameRoom, wordRoom, two-digits, name-most, word-most, mapped-most, line-most, newest-most, five-append, sums, below, all-kept}
 use Rattle.calls.proofs.QueuedOnce.{queued, few-queued}
 

@@ -7,14 +7,11 @@ use lib.ListN.{length}
 use Rattle.rules.specs.Answers.{noRoom}
 use Rattle.rules.specs.State.{State}
 use Rattle.rules.specs.Sound.{Sound}
-use Rattle.rules.specs.Listing.{listing}
+use Rattle.rules.specs.Listing.{listing, listingRoom}
 use Rattle.store.specs.Loading.{Outcome}
 use Rattle.calls.specs.Calls.{ListingCall}
 use Rattle.calls.specs.Numbers.{numberOf, Lists}
 use Rattle.calls.specs.declared.answers.Answer.{Answer}
-
-abbrev pub listingRoom : ℕ
-listingRoom = 65536
 
 pub record ListingRoom : Type 0 where
   -- no listing of a sound state is longer

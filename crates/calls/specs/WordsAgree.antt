@@ -6,15 +6,11 @@ use Prim.Native.Nat.{ℕ}
 use mathlib.Core.Path.{_≡_}
 use mathlib.Core.Logic.{_↔_}
 use mathlib.Core.List.{List, [], _∷_, _++_}
-use Rattle.causal.specs.Paths.{Turns}
-use Rattle.causal.specs.Exec.{Step}
 use Rattle.rules.specs.Answers.{done}
 use Rattle.rules.specs.State.{State}
-use Rattle.rules.specs.Commands.{Command, runState}
+use Rattle.rules.specs.Commands.{Command}
 use Rattle.rules.specs.Line.{single}
-use Rattle.rules.specs.Independent.{Independent}
-use Rattle.rules.specs.Reverse.{reverse}
-use Rattle.demands.specs.Demands.{Reachable}
+use Rattle.demands.specs.Demands.{Reachable, TurnsInto}
 use Rattle.store.specs.Layout.{image}
 use Rattle.store.specs.Loading.{Outcome}
 use Rattle.calls.specs.Calls.{RequestCall}
@@ -28,7 +24,7 @@ pub data Accepted : List ℕ → List Command → List ℕ → Type 0 where
 pub record WordsAgree : Type 0 where
   -- from the store of a state reached from a load they leave equal words exactly when the one list turns into the other
   pub reached : (s : State) (rest a b : List ℕ) (ts us : List Command) → Reachable s → Accepted (image s ++ rest) ts a → Accepted (image s ++ rest) us b
-      → (a ≡ b) ↔ Turns (Step runState) reverse Independent s ts us
+      → (a ≡ b) ↔ TurnsInto s ts us
   -- and so they do from every store after a load and any calls, which holds the image of such a state
   pub after-a-load : (l a b : List ℕ) (ts us : List Command) → Served l → Accepted l ts a → Accepted l us b
-      → (s : State) × (rest : List ℕ) × Reachable s × (l ≡ image s ++ rest) × ((a ≡ b) ↔ Turns (Step runState) reverse Independent s ts us)
+      → (s : State) × (rest : List ℕ) × Reachable s × (l ≡ image s ++ rest) × ((a ≡ b) ↔ TurnsInto s ts us)

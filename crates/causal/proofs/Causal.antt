@@ -5,7 +5,8 @@ use mathlib.Core.List.{List, [], _∷_, _++_, append-assoc, append-nil}
 use Prim.Native.Nat.{ℕ, _+_}
 use native.Mathlib.Omega.{arith}
 use lib.ListN.{length}
-use Rattle.causal.specs.Paths.{Run, done, more, ReachedFrom, remove, Turns, unchanged, changed, Directed, stay, go}
+use Rattle.causal.specs.Paths.{Run, done, more, ReachedFrom, remove, Turns, unchanged, changed}
+use Rattle.causal.specs.Directed.{Directed, stay, go}
 use Rattle.causal.specs.Laws.{Laws}
 use Rattle.causal.specs.Causal.{ForwardOnly, Consistency}
 use Rattle.causal.proofs.Runs.{run-append, run-deterministic, good-run}

@@ -4,7 +4,8 @@ use mathlib.Core.Bool.{Bool, true, false, not, true≢false}
 use mathlib.Core.List.{List, [], _∷_, append-nil}
 use Prim.Native.Nat.{ℕ, zero, suc, _≤_, _<_}
 use native.Mathlib.Omega.{arith}
-use Rattle.causal.specs.Paths.{Run, more, exchange, Turns, unchanged, changed, Directed, stay, go}
+use Rattle.causal.specs.Paths.{Run, more, exchange, Turns, unchanged, changed}
+use Rattle.causal.specs.Directed.{Directed, stay, go}
 use Rattle.causal.specs.Laws.{Laws}
 use Rattle.causal.proofs.Runs.{directed-run, good-run}
 use Rattle.causal.proofs.Changes.{turns-join, turns-later, turns-back}

@@ -6,7 +6,8 @@ use mathlib.Core.List.{List, [], _∷_, _++_, append-assoc, append-nil}
 use Prim.Native.Nat.{ℕ}
 use native.Mathlib.Omega.{arith}
 use lib.ListN.{length-append}
-use Rattle.causal.specs.Paths.{Run, done, more, exchange, remove, Turns, unchanged, changed, Directed, stay, go}
+use Rattle.causal.specs.Paths.{Run, done, more, exchange, remove, Turns, unchanged, changed}
+use Rattle.causal.specs.Directed.{Directed, stay, go}
 use Rattle.causal.specs.Laws.{Laws}
 use Rattle.causal.specs.Causal.{Parabola}
 use Rattle.causal.proofs.Runs.{run-append, directed-run, directed-append}

@@ -3,7 +3,8 @@ use mathlib.Core.Path.{_≡_, refl, subst}
 use mathlib.Core.Bool.{Bool}
 use mathlib.Core.List.{List, _∷_, _++_}
 use Prim.Native.Nat.{ℕ}
-use Rattle.causal.specs.Paths.{Run, done, more, Directed, stay, go}
+use Rattle.causal.specs.Paths.{Run, done, more}
+use Rattle.causal.specs.Directed.{Directed, stay, go}
 use Rattle.causal.specs.Laws.{Laws}
 
 module _ {State Command : Type 0} {Step : State → Command → State → Type 0} where

@@ -5,7 +5,8 @@ use mathlib.Core.Logic.{_↔_}
 use mathlib.Core.List.{List, _++_}
 use Prim.Native.Nat.{ℕ, _+_, _≤_}
 use lib.ListN.{length}
-use Rattle.causal.specs.Paths.{Run, ReachedFrom, Change, Turns, Directed}
+use Rattle.causal.specs.Paths.{Run, ReachedFrom, Change, Turns}
+use Rattle.causal.specs.Directed.{Directed}
 
 module _ {State Command : Type 0} (Step : State → Command → State → Type 0) (reverse : State → Command → Command)
     (Independent : State → Command → Command → Type 0) (forward : Command → Bool) where

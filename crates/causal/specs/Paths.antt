@@ -1,6 +1,4 @@
 -- Sequences of steps: when one is accepted, where it ends, and how one turns into another.
-use mathlib.Core.Path.{_≡_}
-use mathlib.Core.Bool.{Bool}
 use mathlib.Core.Logic.{_≢_}
 use mathlib.Core.List.{List, [], _∷_}
 
@@ -37,9 +35,3 @@ module _ {State Command : Type 0} (Step : State → Command → State → Type 0
     pub data Turns (s : State) : List Command → List Command → Type 0 where
       unchanged : {ts : List Command} → Turns s ts ts
       changed : {ts us vs : List Command} → Change s ts us → Accepted s us → Turns s us vs → Turns s ts vs
-
-  -- `Directed way s ts e`: a run of commands that all go one way, `true` for forward and `false` for backward.
-  module _ (forward : Command → Bool) where
-    pub data Directed (way : Bool) : State → List Command → State → Type 0 where
-      stay : {s : State} → Directed way s [] s
-      go : {s a e : State} {t : Command} {ts : List Command} → Step s t a → forward t ≡ way → Directed way a ts e → Directed way s (t ∷ ts) e

@@ -1,6 +1,6 @@
 -- What the code's walk outside patterns returns: first the words that open no scope, then a let or a clause.
 use Prim.Native.Nat.{ℕ, suc, zero, _+_, _-_, _*_, _≤_, _<_}
-use mathlib.Core.Path.{_≡_, refl, sym, _∙_}
+use mathlib.Core.Path.{_≡_, refl, sym, _∙_, subst}
 use mathlib.Core.Logic.{inl, inr}
 use mathlib.Core.Bool.{Bool, true, false, not, _||_}
 use mathlib.Core.List.{List, _∷_}
@@ -19,10 +19,18 @@ use Rattle.checks.specs.declared.binding.Gone.the-variants.{Past, Broke}
 use Rattle.checks.specs.declared.binding.Light.{Light}
 use Rattle.checks.specs.declared.binding.Plain.{Plain}
 use Rattle.checks.specs.declared.binding.Plain.the-variants as plain
-use Rattle.checks.specs.Walking.{Marks, Rules, Binds, Keeps, Gets, Opened, KeepsPlain, KeepsBoth, LightWord, variables, checkNumbers}
+use Rattle.checks.specs.Walking.{Marks, Rules, Binds, Keeps, Gets, Opened, KeepsPlain, InTurn, KeepsBoth, LightWord, variables, checkNumbers}
 use Rattle.term.proofs.WordLaws.{n-small}
 use Rattle.checks.proofs.MarkLaws.{rules-other, meet-none}
 use Rattle.checks.proofs.WalkLaws.{keep-none, keep-past, keep-short, keep-integer, keep-broken, keep-plain, let-broke, let-done, clause-broke, clause-done, onward-past}
+
+-- what is to be gone through in turn, by another name
+in-turn : {l : List ℕ} {a b n n′ m m′ : ℕ} {inner outer : List Bool} {arities : List ℕ} {u u′ : Bool} {before after : List Bool} {r : Gone}
+    → InTurn b n′ m′ u′ a n m u → KeepsBoth l a n m inner outer arities u before after r → KeepsBoth l b n′ m′ inner outer arities u′ before after r
+in-turn {l} {a} {b} {n} {n′} {m} {m′} {inner} {outer} {arities} {u} {u′} {before} {after} {r} same both =
+    subst (λ z. KeepsBoth l b n′ m′ inner outer arities z before after r) (same .unique-is)
+    (subst (λ z. KeepsBoth l b n′ z inner outer arities u before after r) (same .second-is)
+    (subst (λ z. KeepsBoth l b z m inner outer arities u before after r) (same .first-is) (subst (λ z. KeepsBoth l z n m inner outer arities u before after r) (same .at-is) both)))
 
 -- a tag from atom to call has n children
 arity-plain : (tag n : ℕ) → tagAtom ≤ tag → tag ≤ tagCall → arity tag n ≡ n
@@ -158,9 +166,10 @@ module _ (l : List ℕ) (at owed : ℕ) (marks : List Bool) (arities : List ℕ)
           falls-let = falls b (omega (arith, onward-past (a + 1) b first (hf .onward) eb))
 
           pub opened-let-done : (k : ℕ) → k ≡ kOf (getD l a 0) → (inner : List Bool) → ((scope : List ℕ) → Marks variables marks scope → Marks variables inner (k ∷ scope))
-              → (after : List Bool) (r : Gone) → KeepsBoth l b 1 (left - 1) inner marks arities unique mid after r → Keeps l at owed marks arities unique before after r
-          opened-let-done k ek inner hi after r both =
-              opened .gets .goes after r (let-done l a left marks arities unique met (opened .more) (opened .inside) t et no-integer true (opened .rule) refl i mid first hf b eb k ek inner hi after r both)
+              → (after : List Bool) (r : Gone) (from first′ second : ℕ) (u : Bool) → InTurn b 1 (left - 1) unique from first′ second u → KeepsBoth l from first′ second inner marks arities u mid after r
+              → Keeps l at owed marks arities unique before after r
+          opened-let-done k ek inner hi after r from first′ second u same both =
+              opened .gets .goes after r (let-done l a left marks arities unique met (opened .more) (opened .inside) t et no-integer true (opened .rule) refl i mid first hf b eb k ek inner hi after r (in-turn same both))
 
       module _ (dl : ¬ (t ≡ tagLet)) (inner : List Bool) (first : Gone) (hf : Binds l (a + 1) 1 marks inner first) where
         is-clause : t ≡ tagClause
@@ -176,6 +185,7 @@ module _ (l : List ℕ) (at owed : ℕ) (marks : List Bool) (arities : List ℕ)
           pub falls-clause : (m : ℕ) → 2 * (length l - at) ≡ m → 2 * (length l - b) + 1 < m
           falls-clause = falls b (omega (arith, onward-past (a + 1) b first (hf .onward) eb))
 
-          pub opened-clause-done : (after : List Bool) (r : Gone) → KeepsBoth l b 2 (left - 1) inner marks arities unique met after r → Keeps l at owed marks arities unique before after r
-          opened-clause-done after r both =
-              opened .gets .goes after r (clause-done l a left marks arities unique met (opened .more) (opened .inside) t et no-integer′ true (opened .rule) refl dl is-clause inner first hf b eb after r both)
+          pub opened-clause-done : (after : List Bool) (r : Gone) (from first′ second : ℕ) (u : Bool) → InTurn b 2 (left - 1) unique from first′ second u
+              → KeepsBoth l from first′ second inner marks arities u met after r → Keeps l at owed marks arities unique before after r
+          opened-clause-done after r from first′ second u same both =
+              opened .gets .goes after r (clause-done l a left marks arities unique met (opened .more) (opened .inside) t et no-integer′ true (opened .rule) refl dl is-clause inner first hf b eb after r (in-turn same both))

@@ -93,6 +93,13 @@ KeepsPlain l at owed marks arities unique before after (plain.Past a) = Keeps l 
 KeepsPlain l at owed marks arities unique before after (plain.Broke p) = Keeps l at owed marks arities unique before after (Broke p)
 KeepsPlain l at owed marks arities unique before after (plain.Opens a left) = Opened l at owed marks arities unique before a left after
 
+-- so many terms from a position on, then so many, and whether numbers of checks have to differ: as asked for, and as kept
+pub record InTurn (at first second : ℕ) (unique : Bool) (at′ first′ second′ : ℕ) (unique′ : Bool) : Type 0 where
+  pub at-is : at′ ≡ at
+  pub first-is : first′ ≡ first
+  pub second-is : second′ ≡ second
+  pub unique-is : unique′ ≡ unique
+
 -- terms in one scope, then terms in another
 pub record KeepsBoth (l : List ℕ) (at first second : ℕ) (inner outer : List Bool) (arities : List ℕ) (unique : Bool) (before after : List Bool) (r : Gone) : Type 0 where
   pub answer : (ts us : Terms) (scope scope′ checks : List ℕ) → Stands l at first ts → Stands l (at + length (wordsOf ts)) second us → Marks variables inner scope → Marks variables outer scope′ → Marks checkNumbers before checks

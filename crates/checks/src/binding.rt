@@ -1,5 +1,6 @@
 // The rules past shape: binding, names of functions, numbers of checks.
 use rows::tables::children;
+use rows::terms::Ahead;
 use rows::words::APPLY;
 use rows::words::ATOM;
 use rows::words::CALL;
@@ -22,7 +23,7 @@ ghost use Prim.Native.Nat.{ℕ};
 ghost use lib.Dec.{eqb};
 ghost use Rattle.term.specs.Words.{tagOf, kOf, tagLet, tagClause};
 ghost use Rattle.term.specs.Binding.{names, checksAfter};
-ghost use Rattle.checks.specs.Walking.{Marks, Binds, Rules, Keeps, KeepsPlain, KeepsBoth, LightWord, variables, checkNumbers};
+ghost use Rattle.checks.specs.Walking.{Marks, Binds, Rules, Keeps, KeepsPlain, InTurn, KeepsBoth, LightWord, variables, checkNumbers};
 
 // Where the words that were gone through end, or the word that breaks a rule.
 pub enum Gone {
@@ -176,20 +177,19 @@ pub enum Plain {
     Opens(usize, usize),
 }
 
-// Goes through so many terms outside patterns, from a position on, as far as words open no scope.
+// Goes through the terms ahead, which stand outside patterns, as far as words open no scope.
 pub fn keep_plain(
     row: &[u32],
-    at: usize,
-    owed: usize,
+    ahead: Ahead,
     scope: &[bool; VARIABLES],
     arities: &[u32],
     unique: bool,
     checks: &mut [bool; CHECK_NUMBERS],
 ) -> Plain
-    ensures { λ r. ⌜ KeepsPlain (now (row .entry)) at owed (now (scope .entry)) (now (arities .entry)) unique (now (checks .entry)) (now (checks .exit)) r ⌝ }
+    ensures { λ r. ⌜ KeepsPlain (now (row .entry)) (ahead .at) (ahead .owed) (now (scope .entry)) (now (arities .entry)) unique (now (checks .entry)) (now (checks .exit)) r ⌝ }
 {
-    let mut a = at;
-    let mut left = owed;
+    let mut a = ahead.at;
+    let mut left = ahead.owed;
     while 0 < left {
         if row.len() <= a {
             return Plain::Broke(a);
@@ -217,59 +217,87 @@ pub fn keep_plain(
     Plain::Past(a)
 }
 
-// Goes through so many terms outside patterns, from a position on, all in one scope.
+// So many terms in an inner scope from a position on, then so many in the outer one; and whether numbers of checks have to differ.
+pub struct Both {
+    pub at: usize,
+    pub first: usize,
+    pub second: usize,
+    pub unique: bool,
+}
+
+// Those terms, in turn.
+fn in_turn(at: usize, first: usize, second: usize, unique: bool) -> Both
+    ensures { λ r. ⌜ InTurn at first second unique (r .at) (r .first) (r .second) (r .unique) ⌝ }
+{
+    Both {
+        at: at,
+        first: first,
+        second: second,
+        unique: unique,
+    }
+}
+
+// Goes through the terms ahead, which stand outside patterns, all in one scope.
 pub fn keep(
     row: &[u32],
-    at: usize,
-    owed: usize,
+    ahead: Ahead,
     scope: &[bool; VARIABLES],
     arities: &[u32],
     unique: bool,
     checks: &mut [bool; CHECK_NUMBERS],
 ) -> Gone
-    ensures { λ r. ⌜ Keeps (now (row .entry)) at owed (now (scope .entry)) (now (arities .entry)) unique (now (checks .entry)) (now (checks .exit)) r ⌝ }
+    ensures { λ r. ⌜ Keeps (now (row .entry)) (ahead .at) (ahead .owed) (now (scope .entry)) (now (arities .entry)) unique (now (checks .entry)) (now (checks .exit)) r ⌝ }
 {
-    let plain = keep_plain(row, at, owed, scope, arities, unique, checks);
+    let plain = keep_plain(row, ahead, scope, arities, unique, checks);
     match plain {
         Plain::Past(a) => Gone::Past(a),
         Plain::Broke(p) => Gone::Broke(p),
         Plain::Opens(opens, left) => {
             let w = row[opens];
+            let from = opens + 1;
             if tag(w) == LET {
-                let bound = keep(row, opens + 1, 1, scope, arities, unique, checks);
+                let term = Ahead { at: from, owed: 1 };
+                let bound = keep(row, term, scope, arities, unique, checks);
                 let Gone::Past(a) = bound else {
                     return bound;
                 };
                 let inner = with(scope, k(w) as usize);
-                return keep_both(row, a, 1, left - 1, &inner, scope, arities, unique, checks);
+                let both = in_turn(a, 1, left - 1, unique);
+                return keep_both(row, both, &inner, scope, arities, checks);
             }
             let mut inner = *scope;
-            let pattern = bind(row, opens + 1, 1, &mut inner);
+            let pattern = bind(row, from, 1, &mut inner);
             let Gone::Past(a) = pattern else {
                 return pattern;
             };
-            keep_both(row, a, 2, left - 1, &inner, scope, arities, unique, checks)
+            let both = in_turn(a, 2, left - 1, unique);
+            keep_both(row, both, &inner, scope, arities, checks)
         }
     }
 }
 
-// Goes through so many terms in an inner scope, then through so many in the outer one.
+// Goes through terms in an inner scope, then through terms in the outer one.
 pub fn keep_both(
     row: &[u32],
-    at: usize,
-    first: usize,
-    second: usize,
+    both: Both,
     inner: &[bool; VARIABLES],
     outer: &[bool; VARIABLES],
     arities: &[u32],
-    unique: bool,
     checks: &mut [bool; CHECK_NUMBERS],
 ) -> Gone
-    ensures { λ r. ⌜ KeepsBoth (now (row .entry)) at first second (now (inner .entry)) (now (outer .entry)) (now (arities .entry)) unique (now (checks .entry)) (now (checks .exit)) r ⌝ }
+    ensures { λ r. ⌜ KeepsBoth (now (row .entry)) (both .at) (both .first) (both .second) (now (inner .entry)) (now (outer .entry)) (now (arities .entry)) (both .unique) (now (checks .entry)) (now (checks .exit)) r ⌝ }
 {
-    let one = keep(row, at, first, inner, arities, unique, checks);
+    let first = Ahead {
+        at: both.at,
+        owed: both.first,
+    };
+    let one = keep(row, first, inner, arities, both.unique, checks);
     let Gone::Past(a) = one else {
         return one;
     };
-    keep(row, a, second, outer, arities, unique, checks)
+    let second = Ahead {
+        at: a,
+        owed: both.second,
+    };
+    keep(row, second, outer, arities, both.unique, checks)
 }

@@ -1,6 +1,7 @@
 // Controls: closed, well shaped, keeping the rules.
 use crate::binding::Gone;
 use crate::binding::keep;
+use rows::terms::Ahead;
 use rows::words::CHECK_NUMBERS;
 use rows::words::VARIABLES;
 use shape::shape::EXPRESSION;
@@ -22,7 +23,8 @@ pub fn check_control(row: &[u32], places: u32, arities: &[u32]) -> bool
     }
     let mut checks = [false; CHECK_NUMBERS];
     let scope = [false; VARIABLES];
-    let walk = keep(row, 0, 1, &scope, arities, false, &mut checks);
+    let whole = Ahead { at: 0, owed: 1 };
+    let walk = keep(row, whole, &scope, arities, false, &mut checks);
     let Gone::Past(_) = walk else {
         return false;
     };

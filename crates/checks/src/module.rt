@@ -1,6 +1,7 @@
 // Modules: the check that load makes.
 use crate::binding::Gone;
 use crate::binding::keep;
+use rows::terms::Ahead;
 use rows::words::CHECK_NUMBERS;
 use rows::words::VARIABLES;
 use rows::words::n;
@@ -78,7 +79,9 @@ fn keep_functions(row: &[u32], arities: &[u32]) -> Checked
     let mut at = 0;
     while at < row.len() {
         let scope = parameters(n(row[at]) as usize);
-        let walk = keep(row, at + 1, 1, &scope, arities, true, &mut checks);
+        let from = at + 1;
+        let body = Ahead { at: from, owed: 1 };
+        let walk = keep(row, body, &scope, arities, true, &mut checks);
         match walk {
             Gone::Broke(p) => return Checked::Bad(p),
             Gone::Past(a) => {

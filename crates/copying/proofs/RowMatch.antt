@@ -192,7 +192,10 @@ module _ (p : List ℕ) (pa : ℕ) (v : List ℕ) (va m : ℕ) (env : List ℕ) 
           ∙ ap (λ (x : Option Terms). below x us bindings) (children-other tag n k tag′ n′ k′ us′ (λ z. d (o .head ∙ z ∙ sym (o′ .head)))))
 
       module _ (same : getD p pa 0 ≡ getD v va 0) where
-        module _ (int-tag : g ≡ tagInteger) where
+        module _ (i : ℕ) (ei : i ≡ tagOf (getD p pa 0)) (is-integer : i ≡ tagInteger) where
+          int-tag : g ≡ tagInteger
+          int-tag = eg ∙ sym ei ∙ is-integer
+
           pub match-cut : (r : Bool) → length p - pa < 2 → Matches p pa v va m env env r
           unfolding Matches count PlainAll Plain
           match-cut r short end vs rest rest′ bindings hp hv sp sv ep ev l b = absurd (omega arith)
@@ -230,14 +233,14 @@ module _ (p : List ℕ) (pa : ℕ) (v : List ℕ) (va m : ℕ) (env : List ℕ) 
               matched-is v env′ _ _ r (match-then (int x) ps (int y) vs bindings ∙ ap (λ (z : Option Bindings). onward z ps vs) (integers-same x y bindings (sym (q .payload) ∙ d ∙ q′ .payload)))
               (ih ps vs rest rest′ bindings (hp .1) (hv .1) (omega arith) (omega arith) (q .on) (q′ .on) l b)
 
-        pub match-nodes : ¬ (g ≡ tagInteger) → (c : ℕ) (env′ : List ℕ) (r : Bool) → c ≡ arity (tagOf (getD p pa 0)) (nOf (getD p pa 0)) → Matches p (pa + 1) v (va + 1) (m - 1 + c) env env′ r
+        pub match-nodes : (i : ℕ) → i ≡ tagOf (getD p pa 0) → ¬ (i ≡ tagInteger) → (c : ℕ) (env′ : List ℕ) (r : Bool) → c ≡ arity (tagOf (getD p pa 0)) (nOf (getD p pa 0)) → Matches p (pa + 1) v (va + 1) (m - 1 + c) env env′ r
             → Matches p pa v va m env env′ r
         unfolding Matches PlainAll Plain
-        match-nodes i c env′ r ec ih end vs rest rest′ bindings hp hv sp sv ep ev l b = absurd (nz (sym sp ∙ no-count))
-        match-nodes i c env′ r ec ih (int x then ps) vs rest rest′ bindings hp hv sp sv ep ev l b = absurd (i (eg ∙ integer-at p pa x ps rest ep .tag-is))
-        match-nodes i c env′ r ec ih (node tag n k us then ps) end rest rest′ bindings hp hv sp sv ep ev l b = absurd (nz (sym sv ∙ no-count))
-        match-nodes i c env′ r ec ih (node tag n k us then ps) (int y then vs) rest rest′ bindings hp hv sp sv ep ev l b = absurd (i (eg ∙ ap tagOf same ∙ integer-at v va y vs rest′ ev .tag-is))
-        match-nodes i c env′ r ec ih (node tag n k us then ps) (node tag′ n′ k′ us′ then vs) rest rest′ bindings hp hv sp sv ep ev l b =
+        match-nodes i ei no-integer c env′ r ec ih end vs rest rest′ bindings hp hv sp sv ep ev l b = absurd (nz (sym sp ∙ no-count))
+        match-nodes i ei no-integer c env′ r ec ih (int x then ps) vs rest rest′ bindings hp hv sp sv ep ev l b = absurd (no-integer (ei ∙ integer-at p pa x ps rest ep .tag-is))
+        match-nodes i ei no-integer c env′ r ec ih (node tag n k us then ps) end rest rest′ bindings hp hv sp sv ep ev l b = absurd (nz (sym sv ∙ no-count))
+        match-nodes i ei no-integer c env′ r ec ih (node tag n k us then ps) (int y then vs) rest rest′ bindings hp hv sp sv ep ev l b = absurd (no-integer (ei ∙ ap tagOf same ∙ integer-at v va y vs rest′ ev .tag-is))
+        match-nodes i ei no-integer c env′ r ec ih (node tag n k us then ps) (node tag′ n′ k′ us′ then vs) rest rest′ bindings hp hv sp sv ep ev l b =
             let o = node-at p pa m c tag n k us ps rest (hp .0 .0) sp ep ec in
             let o′ = node-at v va m c tag′ n′ k′ us′ vs rest′ (hv .0 .0) sv ev (ec ∙ ap (λ (w : ℕ). arity (tagOf w) (nOf w)) same) in
             let et = sym (o .tag-is) ∙ ap tagOf same ∙ o′ .tag-is in

@@ -1,5 +1,6 @@
 // Writing rows: words one after another as far as there is room. A place past the buffer's end is its length plus 1.
 use rows::tables::children;
+use rows::terms::Ahead;
 use rows::terms::skip;
 use rows::words::INTEGER;
 use rows::words::VARIABLE;
@@ -62,42 +63,40 @@ pub fn entry(env: &[u32], w: u32) -> usize
     env[x] as usize
 }
 
-// The `pending` terms at `at`, with the values of `env`, which stand in `values`, in place of their variables;
-// no more where words run out, as they never do in whole terms.
-pub fn copy(
-    src: &[u32],
-    at: usize,
-    pending: usize,
-    values: &[u32],
-    env: &[u32],
-    out: &mut [u32],
-    to: usize,
-) -> usize
-    requires { ⌜ (at ≤ length (now src)) × (pending + mostChildren * (length (now src) - at) < pendingLimit) × (length (now values) < walkLimit) × (to ≤ suc (length (now out))) ⌝ }
-    ensures { λ r. ⌜ CopiedTerms (now (src .entry)) at pending (now (values .entry)) (now (env .entry)) to (now (out .entry)) (now (out .exit)) r ⌝ }
+// The terms ahead, with the values of `env`, which stand in `v`, in place of their variables; no more where words run out, as they never
+// do in whole terms.
+pub fn copy(row: &[u32], ahead: Ahead, v: &[u32], env: &[u32], out: &mut [u32], to: usize) -> usize
+    requires { ⌜ (ahead .at ≤ length (now row)) × (ahead .owed + mostChildren * (length (now row) - ahead .at) < pendingLimit) × (length (now v) < walkLimit) × (to ≤ suc (length (now out))) ⌝ }
+    ensures { λ r. ⌜ CopiedTerms (now (row .entry)) (ahead .at) (ahead .owed) (now (v .entry)) (now (env .entry)) to (now (out .entry)) (now (out .exit)) r ⌝ }
 {
-    if pending == 0 {
+    let at = ahead.at;
+    if ahead.owed == 0 {
         return to;
     }
-    if src.len() <= at {
+    if row.len() <= at {
         return to;
     }
     if out.len() < to {
         return to;
     }
-    let w = src[at];
+    let w = row[at];
+    let left = ahead.owed - 1;
     let e = entry(env, w);
     if e != 0 {
-        let b = copy_term(values, e - 1, out, to);
-        return copy(src, at + 1, pending - 1, values, env, out, b);
+        let b = copy_term(v, e - 1, out, to);
+        let a = at + 1;
+        return copy(row, Ahead { at: a, owed: left }, v, env, out, b);
     }
     let b = put(out, to, w);
     if tag(w) == INTEGER {
-        if src.len() - at < 2 {
+        if row.len() - at < 2 {
             return b;
         }
-        let d = put(out, b, src[at + 1]);
-        return copy(src, at + 2, pending - 1, values, env, out, d);
+        let d = put(out, b, row[at + 1]);
+        let a = at + 2;
+        return copy(row, Ahead { at: a, owed: left }, v, env, out, d);
     }
-    copy(src, at + 1, pending - 1 + children(w), values, env, out, b)
+    let a = at + 1;
+    let more = left + children(w);
+    copy(row, Ahead { at: a, owed: more }, v, env, out, b)
 }

@@ -26,20 +26,18 @@ pub fn matches(p: &[u32], pa: usize, v: &[u32], va: usize, pending: usize, env: 
         return false;
     }
     let w = p[pa];
-    let t = tag(w);
-    if t == VARIABLE {
+    if tag(w) == VARIABLE {
         let x = k(w) as usize;
         if env.len() <= x {
             return false;
         }
         env[x] = va as u32 + 1;
-        let end = skip(v, va, 1);
-        return matches(p, pa + 1, v, end, pending - 1, env);
+        return matches(p, pa + 1, v, skip(v, va, 1), pending - 1, env);
     }
     if w != v[va] {
         return false;
     }
-    if t == INTEGER {
+    if tag(w) == INTEGER {
         if p.len() - pa < 2 {
             return false;
         }

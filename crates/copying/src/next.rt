@@ -2,6 +2,7 @@
 use crate::copy::copy;
 use crate::copy::copy_words;
 use crate::copy::put;
+use rows::terms::Ahead;
 use rows::terms::skip;
 use rows::words::INTEGER_WORD;
 ghost use mathlib.Core.List.{[], _∷_};
@@ -41,20 +42,29 @@ pub fn with_integer(c: &[u32], at: usize, x: u32, out: &mut [u32]) -> usize
     after(c, at, out, d)
 }
 
-// The control with the term at `body` in `src`, values in place of its variables, in place of the term at `at`.
+// The term at `body` of one row is to stand in place of the term at `at` of another.
+pub struct Swap {
+    pub at: usize,
+    pub body: usize,
+}
+
+// The control with a term of `src`, values in place of its variables, in place of one of its own.
 pub fn with_copy(
     c: &[u32],
-    at: usize,
     src: &[u32],
-    body: usize,
+    swap: Swap,
     values: &[u32],
     env: &[u32],
     out: &mut [u32],
 ) -> usize
-    requires { ⌜ (at ≤ length (now c)) × (body ≤ length (now src)) × (length (now src) < walkLimit) × (length (now values) < walkLimit) ⌝ }
-    ensures { λ r. ⌜ PutsCopy (now (c .entry)) at (now (src .entry)) body (now (values .entry)) (now (env .entry)) (now (out .entry)) (now (out .exit)) r ⌝ }
+    requires { ⌜ (swap .at ≤ length (now c)) × (swap .body ≤ length (now src)) × (length (now src) < walkLimit) × (length (now values) < walkLimit) ⌝ }
+    ensures { λ r. ⌜ PutsCopy (now (c .entry)) (swap .at) (now (src .entry)) (swap .body) (now (values .entry)) (now (env .entry)) (now (out .entry)) (now (out .exit)) r ⌝ }
 {
-    let a = copy_words(c, 0, at, out, 0);
-    let b = copy(src, body, 1, values, env, out, a);
-    after(c, at, out, b)
+    let a = copy_words(c, 0, swap.at, out, 0);
+    let body = Ahead {
+        at: swap.body,
+        owed: 1,
+    };
+    let b = copy(src, body, values, env, out, a);
+    after(c, swap.at, out, b)
 }

@@ -6,7 +6,7 @@ use mathlib.Core.List.{List, [], _∷_, _++_}
 use lib.ListN.{length}
 use Rattle.rules.specs.State.{Message, Kind, Entry, State, historyAt}
 use Rattle.rules.specs.Flight.{sends, left}
-use Rattle.rules.specs.Commands.{Deed, delivers, undelivers, Beside, Move, turn, post, setQueue, setBeside, apply, pick, entry}
+use Rattle.rules.specs.Commands.{Deed, delivers, undelivers, Beside, Move, turn, post, setQueue, setBeside, apply, pick, entryWith}
 use Rattle.rules.specs.Rules.{process, message, About, LeadsTo}
 use Rattle.rules.specs.Rules
 use Rattle.demands.proofs.Does.{by-seq, by-self, by-check, Makes, alone, by-send, by-receive, by-spawn, seq-alone, self-alone, check-alone, Undoes, undo-alone, undo-send, undo-receive, undo-spawn, Does, forward, backward, sched, unsched}
@@ -17,7 +17,7 @@ pub record Written (s : State) (p : ℕ) (control : List ℕ) (history : List En
   pub beside : Beside
   pub stands : s .processes p ≡ some (process control history)
   pub makes : Makes s p control kind next beside
-  pub leads : apply (turn p (process next (entry kind control ∷ history)) beside) s ≡ after
+  pub leads : apply (turn p (process next (entryWith kind control ∷ history)) beside) s ≡ after
 
 -- and beside one whose entry is undone
 pub record Restored (s : State) (p : ℕ) (before : List ℕ) (older : List Entry) (kind : Kind) (after : State) : Type 0 where
@@ -28,7 +28,7 @@ pub record Restored (s : State) (p : ℕ) (before : List ℕ) (older : List Entr
 module _ {s : State} {p : ℕ} {control : List ℕ} {history : List Entry} where
   -- an entry made, as the two say it
   pub makes-so : {kind : Kind} {next : List ℕ} {beside : Beside} → s .processes p ≡ some (process control history) → Makes s p control kind next beside
-      → Rules.Makes s p control history kind next (apply (turn p (process next (entry kind control ∷ history)) beside) s)
+      → Rules.Makes s p control history kind next (apply (turn p (process next (entryWith kind control ∷ history)) beside) s)
   unfolding apply setBeside
   makes-so i (alone (by-seq e)) = Rules.by-seq (record { stands = i; is = e })
   makes-so i (alone (by-self e)) = Rules.by-self (record { stands = i; is = e })

@@ -8,7 +8,7 @@ use native.Mathlib.Omega.{arith}
 use Rattle.lists.proofs.Tables.{put-same}
 use Rattle.rules.specs.State.{letter, asSend, asSpawn, State, historyAt}
 use Rattle.rules.specs.Flight.{sends, sent}
-use Rattle.rules.specs.Commands.{Command, step, spawnInto, deliver, back, undeliver, Deed, makes, undoes, delivers, undelivers, Move, post, setQueue, apply, entry}
+use Rattle.rules.specs.Commands.{Command, step, spawnInto, deliver, back, undeliver, Deed, makes, undoes, delivers, undelivers, Move, post, setQueue, apply, entryWith}
 use Rattle.rules.specs.Rules.{message, commandOf}
 use Rattle.rules.specs.Independent.{Apart, actor, mailbox, actsAt, receiver, spawnsInto, unspawns, Unsends, Crossed, IndependentDeeds}
 use Rattle.demands.proofs.Does.{undo-alone, undo-send, undo-receive, undo-spawn, Does, forward, backward, sched, unsched}
@@ -27,8 +27,8 @@ same-undo (sched _ _) b x y c keep = absurd x
 same-undo (backward _ _) (forward _ _ _ _) x y c keep = absurd y
 same-undo {s} {a} (backward {p} {before} {older} {kind} i un) (backward {p = p′} {before = before′} {older = older′} {kind = kind′} j vn) x y c keep =
     let same-place : p ≡ p′ = cc in
-    let entries : entry kind before ∷ older ≡ entry kind′ before′ ∷ older′ = process-history (sym i ∙ sym (keep p refl) ∙ ap (a .processes) same-place ∙ j) in
-    let tops : entry kind before ≡ entry kind′ before′ = cc in
+    let entries : entryWith kind before ∷ older ≡ entryWith kind′ before′ ∷ older′ = process-history (sym i ∙ sym (keep p refl) ∙ ap (a .processes) same-place ∙ j) in
+    let tops : entryWith kind before ≡ entryWith kind′ before′ = cc in
     let rests : older ≡ older′ = cc in
     λ l. undoes (same-place l) (sends (rests l)) (tops l .kind)
 same-undo (backward _ _) (sched _ _) x y c keep = absurd y

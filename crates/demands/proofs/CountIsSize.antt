@@ -6,6 +6,7 @@ use mathlib.Core.Bool.{true, not}
 use mathlib.Core.Option.{some}
 use native.Mathlib.Omega.{arith}
 use Rattle.lists.specs.Lists.{upTo}
+use Rattle.lists.specs.Members.{In, NoneTwice}
 use Rattle.lists.proofs.Tests.{ltb-false, ltb-over, not-true}
 use Rattle.lists.proofs.Members.{in-kept, kept-passes}
 use Rattle.rules.specs.Answers.{done}
@@ -13,11 +14,12 @@ use Rattle.rules.specs.State.{State, historyAt}
 use Rattle.rules.specs.Sound.{Sound}
 use Rattle.rules.specs.Depends.{Series, entriesOf, deliveriesTo, Event, event, level, happened, WithDependents}
 use Rattle.rules.specs.Rollback.{newestCheck, Removes, Rollback, is-done, is-held, no-check, no-process, Cut, eventsOn, eventsAt, events, stays, takenOff}
-use Rattle.demands.specs.CountIsSize.{Among, NoneTwice, HasSize, CountIsSize}
+use Rattle.demands.specs.Size.{HasSize}
+use Rattle.demands.specs.CountIsSize.{CountIsSize}
 use Rattle.demands.proofs.Event.{low}
 use Rattle.demands.proofs.Removal.{back-under, counted, in-level, level-in, over-level, level-over, removes-run}
 use Rattle.demands.proofs.Cut.{in-events, count-off}
-use Rattle.demands.proofs.Once.{in-among, among-in, among-append, once-append, among-kept, once-kept, among-map, once-map, among-upTo, once-upTo, among-joined, once-joined}
+use Rattle.demands.proofs.Once.{append-in, once-append, kept-in, once-kept, map-in, once-map, upTo-in, once-upTo, joined-in, once-joined}
 
 event-line : {x y : Series} {i j : ℕ} → event x i ≡ event y j → x ≡ y
 event-line e = cc
@@ -36,17 +38,17 @@ lines-apart e = let z : _≡_ {A = ℕ} 0 1 = cc in absurd (omega arith)
 
 -- ---- the events of a state, each once
 module _ (s : State) where
-  on-line : {y x : Series} {i : ℕ} → Among (event x i) (eventsOn s y) → (x ≡ y) × (i < level s y)
+  on-line : {y x : Series} {i : ℕ} → In (event x i) (eventsOn s y) → (x ≡ y) × (i < level s y)
   unfolding eventsOn
-  on-line {y} a = let (j, b, e) = among-map (event y) (upTo (level s y)) a in (event-line e, subst (λ i. i < level s y) (sym (event-number e)) (among-upTo (level s y) b))
+  on-line {y} a = let (j, b, e) = map-in (event y) (upTo (level s y)) a in (event-line e, subst (λ i. i < level s y) (sym (event-number e)) (upTo-in (level s y) b))
 
   line-once : (x : Series) → NoneTwice (eventsOn s x)
   unfolding eventsOn
   line-once x = once-map (event x) (λ i j e. event-number e) (upTo (level s x)) (once-upTo (level s x))
 
-  at-place : {p : ℕ} {x : Series} {i : ℕ} → Among (event x i) (eventsAt s p) → ((x ≡ entriesOf p) ⊎ (x ≡ deliveriesTo p)) × (i < level s x)
+  at-place : {p : ℕ} {x : Series} {i : ℕ} → In (event x i) (eventsAt s p) → ((x ≡ entriesOf p) ⊎ (x ≡ deliveriesTo p)) × (i < level s x)
   unfolding eventsAt
-  at-place {p} {x} {i} a = elim (among-append (eventsOn s (entriesOf p)) a) [
+  at-place {p} {x} {i} a = elim (append-in (eventsOn s (entriesOf p)) a) [
     | inl b ↦ (let (e, h) = on-line b in (inl e, subst (λ y. i < level s y) (sym e) h))
     | inr b ↦ (let (e, h) = on-line b in (inr e, subst (λ y. i < level s y) (sym e) h))
   ]
@@ -55,10 +57,10 @@ module _ (s : State) where
   unfolding eventsAt
   place-once p = once-append (eventsOn s (entriesOf p)) (eventsOn s (deliveriesTo p)) (line-once (entriesOf p)) (line-once (deliveriesTo p)) apart
     where
-      apart : (e : Event) → Among e (eventsOn s (entriesOf p)) → Among e (eventsOn s (deliveriesTo p)) → ⊥
+      apart : (e : Event) → In e (eventsOn s (entriesOf p)) → In e (eventsOn s (deliveriesTo p)) → ⊥
       apart (event x i) a b = lines-apart (sym (on-line a .0) ∙ on-line b .0)
 
-  one-place : (p q : ℕ) (e : Event) → Among e (eventsAt s p) → Among e (eventsAt s q) → p ≡ q
+  one-place : (p q : ℕ) (e : Event) → In e (eventsAt s p) → In e (eventsAt s q) → p ≡ q
   one-place p q (event x i) a b = same (at-place a .0) (at-place b .0)
     where
       same : (x ≡ entriesOf p) ⊎ (x ≡ deliveriesTo p) → (x ≡ entriesOf q) ⊎ (x ≡ deliveriesTo q) → p ≡ q
@@ -71,9 +73,9 @@ module _ (s : State) where
   unfolding events
   events-once = once-joined (eventsAt s) place-once one-place (s .sizes .places)
 
-  has-happened : {x : Series} {i : ℕ} → Among (event x i) (events s) → i < level s x
+  has-happened : {x : Series} {i : ℕ} → In (event x i) (events s) → i < level s x
   unfolding events
-  has-happened a = let (p, h, b) = among-joined (eventsAt s) (s .sizes .places) a in at-place b .1
+  has-happened a = let (p, h, b) = joined-in (eventsAt s) (s .sizes .places) a in at-place b .1
 
 -- ---- what a cut takes off
 module _ {s : State} (sound : Sound s) (k : Cut) where
@@ -81,14 +83,14 @@ module _ {s : State} (sound : Sound s) (k : Cut) where
   unfolding takenOff
   off-once = once-kept (λ e. not (stays k e)) (events s) (events-once s)
 
-  off-is : (x : Series) (i : ℕ) → Among (event x i) (takenOff s k) ↔ ((i < level s x) × (k x ≤ i))
+  off-is : (x : Series) (i : ℕ) → In (event x i) (takenOff s k) ↔ ((i < level s x) × (k x ≤ i))
   unfolding takenOff stays
   off-is x i = (
     λ a. (
-      has-happened s (among-kept (λ e. not (stays k e)) (events s) a),
-      ltb-false i (k x) (not-true _ (kept-passes (λ e. not (stays k e)) (events s) (among-in a))),
+      has-happened s (kept-in (λ e. not (stays k e)) (events s) a),
+      ltb-false i (k x) (not-true _ (kept-passes (λ e. not (stays k e)) (events s) a)),
     ),
-    λ (h, g). in-among (in-kept (λ e. not (stays k e)) (events s) (in-events sound x h) (ap not (ltb-over i (k x) g))),
+    λ (h, g). in-kept (λ e. not (stays k e)) (events s) (in-events sound x h) (ap not (ltb-over i (k x) g)),
   )
 
 module _ {s end : State} {set : Event → Type 0} {n : ℕ} (sound : Sound s) (r : Removes s end set n) where
@@ -103,7 +105,7 @@ module _ {s end : State} {set : Event → Type 0} {n : ℕ} (sound : Sound s) (r
     size = omega (arith, counted sound (removes-run sound r), count-off s (level end) below);
   }
     where
-      exactly : (e : Event) → Among e (takenOff s (level end)) ↔ ((happened s e ≡ true) × set e)
+      exactly : (e : Event) → In e (takenOff s (level end)) ↔ ((happened s e ≡ true) × set e)
       exactly (event x i) = (
         λ a. let (h, g) = off-is sound (level end) x i .0 a in (level-in s x h, r .exactly (event x i) (level-in s x h) .0 (level-over end x g)),
         λ (h, inside). off-is sound (level end) x i .1 (in-level s x h, over-level end x (r .exactly (event x i) h .1 inside)),

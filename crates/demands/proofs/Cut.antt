@@ -11,7 +11,8 @@ use lib.ListN.{length, length-append}
 use Rattle.lists.specs.Lists.{any, keep, upTo, joined}
 use Rattle.lists.proofs.Tests.{true-not-false, eqb-same, eqb-apart, ltb-true, ltb-of, ltb-over, ltb-false, and-left, and-right, and-of, or-left, not-true, cond-true, cond-false}
 use Rattle.lists.proofs.Lists.{keep-nil, keep-true, keep-false, keep-append, keep-fewer, joined-next}
-use Rattle.lists.proofs.Members.{In, in-left, in-right, in-joined, in-map, in-upTo, none-kept, first-kept, in-kept, kept-passes, one-passes, passes}
+use Rattle.lists.specs.Members.{In}
+use Rattle.lists.proofs.Members.{in-left, in-right, in-joined, in-map, in-upTo, none-kept, first-kept, in-kept, kept-passes, one-passes, passes}
 use Rattle.rules.specs.State.{State, historyOf, historyAt}
 use Rattle.rules.specs.Sound.{Sound}
 use Rattle.rules.specs.Depends.{queuesShown, shownIn, arrivals, Series, entriesOf, deliveriesTo, level, happened, listed, dependsAtOnce, DependsOn, at-once, chain, WithDependents, Event, event}

@@ -12,7 +12,7 @@ use Rattle.machine.specs.Work.{toSend, toSpawn, work}
 use Rattle.rules.specs.State.{Letter, letter, spawn, asSend, asSpawn, Entry, Process, State, historyOf, historyAt, inPool}
 use Rattle.rules.specs.Flight.{sends}
 use Rattle.rules.specs.Load.{newProcess}
-use Rattle.rules.specs.Commands.{Deed, makes, undoes, delivers, undelivers, Move, setProcess, setQueue, setBeside, apply, entry}
+use Rattle.rules.specs.Commands.{Deed, makes, undoes, delivers, undelivers, Move, setProcess, setQueue, setBeside, apply, entryWith}
 use Rattle.rules.specs.Rules.{process, InFlight}
 use Rattle.rules.specs.Independent.{actor, spawnsInto, unspawns}
 use Rattle.demands.proofs.Does.{alone, by-send, by-receive, by-spawn, undo-alone, undo-send, undo-receive, undo-spawn, Does, forward, backward, sched, unsched}
@@ -51,7 +51,7 @@ pub record Unspawning (s after : State) (d : Deed) (q : ℕ) : Type 0 where
   pub first : List ℕ
   pub acts : actor d ≡ some at
   pub is : d ≡ undoes at (sends rest) (spawn q)
-  pub top : historyAt s at ≡ entry (spawn q) before ∷ rest
+  pub top : historyAt s at ≡ entryWith (spawn q) before ∷ rest
   pub new : s .processes q ≡ some (newProcess first)
   pub empty : s .queues q ≡ []
   pub empty-after : after .queues q ≡ []
@@ -95,7 +95,7 @@ pub record Spawning (s after : State) (d : Deed) (q : ℕ) : Type 0 where
   pub about : work (s .module′) control ≡ toSpawn child next
   pub free : inPool s q ≡ false
   pub place : q < s .sizes .places
-  pub top : historyAt after at ≡ entry (spawn q) control ∷ rest
+  pub top : historyAt after at ≡ entryWith (spawn q) control ∷ rest
   pub new : after .processes q ≡ some (newProcess child)
 
 pub spawning : {s : State} {d : Deed} {w : Move} {x : ℕ} → Does s d w → spawnsInto d ≡ some x → Spawning s (apply w s) d x

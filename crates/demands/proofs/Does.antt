@@ -10,7 +10,7 @@ use Rattle.machine.specs.Work.{toSeq, toSend, toReceive, toSpawn, toSelf, toChe
 use Rattle.rules.specs.State.{Message, Kind, seq, send, rec, spawn, self, check, Entry, State, historyAt, inPool}
 use Rattle.rules.specs.Flight.{sends, left}
 use Rattle.rules.specs.Load.{newProcess}
-use Rattle.rules.specs.Commands.{Deed, makes, undoes, delivers, undelivers, Beside, nothing, ownQueue, other, Move, turn, post, picked, pick, entry}
+use Rattle.rules.specs.Commands.{Deed, makes, undoes, delivers, undelivers, Beside, nothing, ownQueue, other, Move, turn, post, picked, pick, entryWith}
 use Rattle.rules.specs.Rules.{process, message, InFlight}
 
 -- p with the control makes an entry of a kind and has the next control, and nobody else is concerned
@@ -48,9 +48,9 @@ pub data Undoes (s : State) (p count : ℕ) : Kind → Beside → Type 0 where
 pub data Does (s : State) : Deed → Move → Type 0 where
   forward : {p : ℕ} {control next : List ℕ} {history : List Entry} {kind : Kind} {beside : Beside} → s .processes p ≡ some (process control history)
       → Makes s p control kind next beside → length history < s .sizes .entries → length next ≤ s .sizes .words
-      → Does s (makes p kind) (turn p (process next (entry kind control ∷ history)) beside)
+      → Does s (makes p kind) (turn p (process next (entryWith kind control ∷ history)) beside)
   backward : {p : ℕ} {control before : List ℕ} {older : List Entry} {kind : Kind} {beside : Beside}
-      → s .processes p ≡ some (process control (entry kind before ∷ older)) → Undoes s p (sends older) kind beside
+      → s .processes p ≡ some (process control (entryWith kind before ∷ older)) → Undoes s p (sends older) kind beside
       → Does s (undoes p (sends older) kind) (turn p (process before older) beside)
   sched : {sender k t : ℕ} {value : List ℕ} {queue : List Message} → InFlight s sender k t value → s .queues t ≡ queue
       → Does s (delivers sender k t) (post t (queue ++ (message sender k value ∷ [])))

@@ -13,7 +13,7 @@ use Rattle.lists.proofs.Tables.{put-same, put-other}
 use Rattle.lists.proofs.Tests.{true-not-false, none-not-some, some-injective}
 use Rattle.rules.specs.State.{Message, Kind, asRec, Entry, State, historyOf, historyAt, inPool}
 use Rattle.rules.specs.Flight.{taken}
-use Rattle.rules.specs.Commands.{Deed, makes, undoes, delivers, undelivers, Move, setProcess, setQueue, setBeside, apply, entry}
+use Rattle.rules.specs.Commands.{Deed, makes, undoes, delivers, undelivers, Move, setProcess, setQueue, setBeside, apply, entryWith}
 use Rattle.rules.specs.Rules.{process, message, InFlight}
 use Rattle.rules.specs.Independent.{Apart, mailbox, ifRec, receiver}
 use Rattle.rules.specs.Sound.{Sound}
@@ -91,13 +91,13 @@ pub record Down (s t : State) (x : Series) : Type 0 where
 come-stays : {s : State} {d : Deed} {x : ℕ} {h h′ : List Entry} (queue : List Message) → Turned s d x h h′ → Apart (receiver d) (some x) → come h′ queue ≡ come h queue
 unfolding receiver
 come-stays queue (same i) a = ap (λ h. come h queue) i
-come-stays {x} {h} queue (grown kind c i u _ _) a = ap (λ h. come h queue) i ∙ come-none (entry kind c) h queue (no-rec kind x (rw u at a))
-come-stays {x} {h′} queue (shrunk kind c i u) a = sym (ap (λ h. come h queue) i ∙ come-none (entry kind c) h′ queue (no-rec kind x (rw u at a)))
+come-stays {x} {h} queue (grown kind c i u _ _) a = ap (λ h. come h queue) i ∙ come-none (entryWith kind c) h queue (no-rec kind x (rw u at a))
+come-stays {x} {h′} queue (shrunk kind c i u) a = sym (ap (λ h. come h queue) i ∙ come-none (entryWith kind c) h′ queue (no-rec kind x (rw u at a)))
 
 -- a rec takes from the queue, and no arrival goes
-pub come-taken : (a : List Message) (m : Message) (b : List Message) (c : List ℕ) (h : List Entry) → come (entry (Kind.rec a m b) c ∷ h) (a ++ b) ≡ come h (a ++ (m ∷ b))
+pub come-taken : (a : List Message) (m : Message) (b : List Message) (c : List ℕ) (h : List Entry) → come (entryWith (Kind.rec a m b) c ∷ h) (a ++ b) ≡ come h (a ++ (m ∷ b))
 unfolding asRec
-come-taken a m b c h = come-rec (entry (Kind.rec a m b) c) h (a ++ b) refl ∙ ap (λ z. come h (a ++ (m ∷ b)) ++ z) (drop-length (a ++ b)) ∙ append-nil _
+come-taken a m b c h = come-rec (entryWith (Kind.rec a m b) c) h (a ++ b) refl ∙ ap (λ z. come h (a ++ (m ∷ b)) ++ z) (drop-length (a ++ b)) ∙ append-nil _
 
 pub come-kept : {s : State} {d : Deed} {w : Move} (x : ℕ) → Does s d w → Apart (mailbox d) (some x) → comeAt (apply w s) x ≡ comeAt s x
 unfolding apply setBeside setProcess setQueue historyAt historyOf receiver ifRec asRec
@@ -124,7 +124,7 @@ come-kept {s} {d} {w} x a n = elim (at? x (receiver d)) [
 onto : {e : Entry} {g h : List Entry} → g ≡ h → e ∷ g ≡ e ∷ h
 onto {e} i = ap (λ z. e ∷ z) i
 
-pub topped : {s : State} {p : ℕ} {kind : Kind} {w : Move} → Does s (makes p kind) w → (c : List ℕ) × (historyAt (apply w s) p ≡ entry kind c ∷ historyAt s p)
+pub topped : {s : State} {p : ℕ} {kind : Kind} {w : Move} → Does s (makes p kind) w → (c : List ℕ) × (historyAt (apply w s) p ≡ entryWith kind c ∷ historyAt s p)
 unfolding apply setBeside setProcess setQueue historyAt historyOf
 topped {s} {p} (forward {control} i (alone _) _ _) = (control, ap historyOf (put-same p _ (s .processes) p refl) ∙ onto (sym (ap historyOf i)))
 topped {s} {p} (forward {control} i (by-send _ _) _ _) = (control, ap historyOf (put-same p _ (s .processes) p refl) ∙ onto (sym (ap historyOf i)))
@@ -134,7 +134,7 @@ topped {s} {p} (forward {control} i (by-spawn {f} _ _ n) _ _) = (
   ap historyOf (put-other f _ _ p (λ y. true-not-false (in-pool s p i) (ap (inPool s) (sym y) ∙ n)) ∙ put-same p _ (s .processes) p refl) ∙ onto (sym (ap historyOf i)),
 )
 
-pub popped : {s : State} {p n : ℕ} {kind : Kind} {w : Move} → Does s (undoes p n kind) w → (c : List ℕ) × (historyAt s p ≡ entry kind c ∷ historyAt (apply w s) p)
+pub popped : {s : State} {p n : ℕ} {kind : Kind} {w : Move} → Does s (undoes p n kind) w → (c : List ℕ) × (historyAt s p ≡ entryWith kind c ∷ historyAt (apply w s) p)
 unfolding apply setBeside setProcess setQueue historyAt historyOf
 popped {s} {p} (backward {before} {older} i (undo-alone _)) = (before, ap historyOf i ∙ onto (sym (ap historyOf (put-same p (some (process before older)) (s .processes) p refl))))
 popped {s} {p} (backward {before} {older} i (undo-send _)) = (before, ap historyOf i ∙ onto (sym (ap historyOf (put-same p (some (process before older)) (s .processes) p refl))))

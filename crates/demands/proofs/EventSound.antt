@@ -14,7 +14,7 @@ use Rattle.term.specs.Control.{goodControl, moduleArities}
 use Rattle.machine.specs.Work.{work}
 use Rattle.rules.specs.State.{Kind, Entry, State, historyAt, entryAt}
 use Rattle.rules.specs.Load.{goodSizes}
-use Rattle.rules.specs.Commands.{Deed, Move, setProcess, setQueue, setBeside, apply, entry}
+use Rattle.rules.specs.Commands.{Deed, Move, setProcess, setQueue, setBeside, apply, entryWith}
 use Rattle.rules.specs.Rules.{process}
 use Rattle.rules.specs.Sound.{SoundControl, Sound}
 use Rattle.demands.proofs.Does.{undo-alone, undo-send, undo-receive, undo-spawn, Does, forward, backward, sched, unsched}
@@ -27,11 +27,11 @@ use Rattle.demands.proofs.Positions.{Had, now, past}
 use Rattle.demands.proofs.Event.{suffix-trans, suffix-back}
 
 -- ---- what a process has after an undo it had before
-returned : {s : State} {p x : ℕ} {kind : Kind} {before top control : List ℕ} {h g : List Entry} → s .processes p ≡ some (process top (entry kind before ∷ h))
+returned : {s : State} {p x : ℕ} {kind : Kind} {before top control : List ℕ} {h g : List Entry} → s .processes p ≡ some (process top (entryWith kind before ∷ h))
     → Dec (p ≡ x) → put p (some (process before h)) (s .processes) x ≡ some (process control g) → Had s x control g
 returned {s} {p} {x} {kind} {before} {h = h} i (yes u) e =
     let f = some-injective (sym (put-same p (some (process before h)) (s .processes) x u) ∙ e) in
-    past {kind = kind} (suffix-top (history-of s x (ap (s .processes) (sym u) ∙ i) ∙ (λ l. entry kind (f l .control) ∷ f l .history)))
+    past {kind = kind} (suffix-top (history-of s x (ap (s .processes) (sym u) ∙ i) ∙ (λ l. entryWith kind (f l .control) ∷ f l .history)))
 returned {s} {p} {x} i (no n) e = now (sym (put-other p _ (s .processes) x n) ∙ e)
 
 had-before : {s : State} {d : Deed} {w : Move} {x : ℕ} {control : List ℕ} {g : List Entry} → Does s d w → Backward d → (apply w s) .processes x ≡ some (process control g) → Had s x control g
@@ -60,7 +60,7 @@ module _ {s : State} (sound : Sound s) {d : Deed} {w : Move} (a : Does s d w) (b
 
   had-sound : {x : ℕ} {control : List ℕ} {g : List Entry} → Had s x control g → SoundControl s control
   had-sound {x} {control} {g} (now i) = sound .controls x (process control g) i
-  had-sound {x} {control} {g} (past {kind} st) = sound .controls-before x (length g) (entry kind control) (suffix-entry st)
+  had-sound {x} {control} {g} (past {kind} st) = sound .controls-before x (length g) (entryWith kind control) (suffix-entry st)
 
   control-after : {control : List ℕ} → SoundControl s control → SoundControl (apply w s) control
   control-after {control} c = record {

@@ -11,7 +11,7 @@ use Rattle.lists.proofs.Tests.{true-not-false}
 use Rattle.machine.specs.Work.{work}
 use Rattle.rules.specs.State.{Kind, asRec, asSpawn, Entry, Process, State, historyOf, historyAt, isProcess, inPool}
 use Rattle.rules.specs.Flight.{sends}
-use Rattle.rules.specs.Commands.{Deed, makes, undoes, Beside, nothing, ownQueue, other, Move, turn, post, setProcess, setQueue, setBeside, apply, entry}
+use Rattle.rules.specs.Commands.{Deed, makes, undoes, Beside, nothing, ownQueue, other, Move, turn, post, setProcess, setQueue, setBeside, apply, entryWith}
 use Rattle.rules.specs.Rules.{process}
 use Rattle.rules.specs.Independent.{Apart, actor, mailbox, ifRec, receiver, spawnsInto, unspawns}
 use Rattle.demands.proofs.Does.{MakesAlone, by-seq, by-self, by-check, Makes, alone, by-send, by-receive, by-spawn, undo-alone, undo-send, undo-receive, undo-spawn, Does, forward, backward, sched, unsched}
@@ -103,12 +103,12 @@ history-of s p e = rw e refl
 -- ---- how a place's history changes
 pub data Turned (s : State) (d : Deed) (x : ℕ) (h h′ : List Entry) : Type 0 where
   same : h′ ≡ h → Turned s d x h h′
-  grown : {next : List ℕ} {beside : Beside} (kind : Kind) (control : List ℕ) → h′ ≡ entry kind control ∷ h → d ≡ makes x kind → s .processes x ≡ some (process control h)
+  grown : {next : List ℕ} {beside : Beside} (kind : Kind) (control : List ℕ) → h′ ≡ entryWith kind control ∷ h → d ≡ makes x kind → s .processes x ≡ some (process control h)
       → Makes s x control kind next beside → Turned s d x h h′
-  shrunk : (kind : Kind) (before : List ℕ) → h ≡ entry kind before ∷ h′ → d ≡ undoes x (sends h′) kind → Turned s d x h h′
+  shrunk : (kind : Kind) (before : List ℕ) → h ≡ entryWith kind before ∷ h′ → d ≡ undoes x (sends h′) kind → Turned s d x h h′
 
 grown-at : {s : State} {x p : ℕ} {control next : List ℕ} {h : List Entry} {kind : Kind} {beside : Beside} → p ≡ x → s .processes p ≡ some (process control h)
-    → Makes s p control kind next beside → Turned s (makes p kind) x h (entry kind control ∷ h)
+    → Makes s p control kind next beside → Turned s (makes p kind) x h (entryWith kind control ∷ h)
 grown-at {s} {control} {next} {kind} {beside} e i mk = grown kind control refl (ap (λ z. makes z kind) e) (ap (s .processes) (sym e) ∙ i) (subst (λ z. Makes s z control kind next beside) e mk)
 
 -- the process at p is set

@@ -9,7 +9,7 @@ use Rattle.lists.proofs.Tests.{none-not-some}
 use Rattle.machine.specs.Laws.{Holds}
 use Rattle.rules.specs.State.{Message, letter, rec, spawn, self, asSend, asSpawn, Entry, State, historyAt}
 use Rattle.rules.specs.Flight.{sends}
-use Rattle.rules.specs.Commands.{Deed, Move, entry}
+use Rattle.rules.specs.Commands.{Deed, Move, entryWith}
 use Rattle.rules.specs.Independent.{Apart, actor, unspawns, IndependentDeeds}
 use Rattle.rules.specs.Sound.{SentTo, Sound}
 use Rattle.rules.specs.Standing.{Suffix}
@@ -38,15 +38,15 @@ sent-as {s} {m} t e =
 -- x, with the history g, has learnt of q
 pub data Knows (s : State) (q : ℕ) : ℕ → List Entry → Type 0 where
   -- it asked for its own pid
-  itself : {before : List ℕ} {g : List Entry} → Knows s q q (entry self before ∷ g)
+  itself : {before : List ℕ} {g : List Entry} → Knows s q q (entryWith self before ∷ g)
   -- it spawned q
-  maker : {x : ℕ} {before : List ℕ} {g : List Entry} → Knows s q x (entry (spawn q) before ∷ g)
+  maker : {x : ℕ} {before : List ℕ} {g : List Entry} → Knows s q x (entryWith (spawn q) before ∷ g)
   -- it knew before
   later : {x : ℕ} {e : Entry} {g : List Entry} → Knows s q x g → Knows s q x (e ∷ g)
   -- it was told
-  heard : {x : ℕ} {a b : List Message} {m : Message} {before : List ℕ} {g f : List Entry} → SentAs s m x f → Knows s q (m .sender) f → Knows s q x (entry (rec a m b) before ∷ g)
+  heard : {x : ℕ} {a b : List Message} {m : Message} {before : List ℕ} {g f : List Entry} → SentAs s m x f → Knows s q (m .sender) f → Knows s q x (entryWith (rec a m b) before ∷ g)
   -- its maker knew
-  born : {x y : ℕ} {before : List ℕ} {f : List Entry} → Suffix (entry (spawn x) before ∷ f) (historyAt s y) → Knows s q y f → Knows s q x []
+  born : {x y : ℕ} {before : List ℕ} {f : List Entry} → Suffix (entryWith (spawn x) before ∷ f) (historyAt s y) → Knows s q y f → Knows s q x []
 
 -- whoever holds a pid has learnt of it
 unfoldable pub Learnt : State → Type 0

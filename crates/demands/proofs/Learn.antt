@@ -10,7 +10,7 @@ use Rattle.lists.proofs.Tests.{true-not-false, none-not-some}
 use Rattle.machine.specs.Laws.{Holds}
 use Rattle.rules.specs.State.{Message, letter, Kind, seq, self, check, send, rec, spawn, asRec, asSpawn, Entry, State, historyAt, inPool}
 use Rattle.rules.specs.Flight.{sends, sent}
-use Rattle.rules.specs.Commands.{Deed, undoes, Beside, Move, apply, entry}
+use Rattle.rules.specs.Commands.{Deed, undoes, Beside, Move, apply, entryWith}
 use Rattle.rules.specs.Rules.{process}
 use Rattle.rules.specs.Independent.{unspawns, Unsends}
 use Rattle.rules.specs.Sound.{SentTo, Sound}
@@ -55,7 +55,7 @@ module _ {s : State} (laws : LawsAt s) (sound : Sound s) (learnt : Learnt s) {d 
       heard n (knows-stays k (suffix-tail (n .stands)) (suffix-lives (apply w s) (m .sender) (n .stands)))
   knows-stays {q} {x} (born {y} {before} {f} z k) st v = go (suffix-stays (turned y a) z) (λ st v. knows-stays k st v)
     where
-      go : Suffix (entry (spawn x) before ∷ f) (historyAt (apply w s) y) ⊎ ((d ≡ undoes y (sends f) (spawn x)) × (f ≡ historyAt (apply w s) y))
+      go : Suffix (entryWith (spawn x) before ∷ f) (historyAt (apply w s) y) ⊎ ((d ≡ undoes y (sends f) (spawn x)) × (f ≡ historyAt (apply w s) y))
           → (Suffix f (historyAt (apply w s) y) → inPool (apply w s) y ≡ true → Knows (apply w s) q y f) → Knows (apply w s) q x []
       go (inl n) r = born n (r (suffix-tail n) (suffix-lives (apply w s) y n))
       go (inr e) r = true-not-false v (not-in-pool (apply w s) x (unspawning a (ap unspawns (e .0)) .gone))
@@ -66,17 +66,17 @@ module _ {s : State} (laws : LawsAt s) (sound : Sound s) (learnt : Learnt s) {d 
 
   -- what x knew before its step it knows after
   still : {x : ℕ} {before : List ℕ} {h : List Entry} {kind : Kind} (q : ℕ) → s .processes x ≡ some (process before h) → Holds before q
-      → Suffix (entry kind before ∷ h) (historyAt (apply w s) x) → Knows (apply w s) q x (entry kind before ∷ h)
+      → Suffix (entryWith kind before ∷ h) (historyAt (apply w s) x) → Knows (apply w s) q x (entryWith kind before ∷ h)
   unfolding Learnt
   still {x} {before} {h} q i n st = later (knows-stays (learnt x q before h (now i) n) (suffix-tail st) (suffix-lives (apply w s) x st))
 
   learns : {x : ℕ} {before next : List ℕ} {h : List Entry} {kind : Kind} {beside : Beside} (q : ℕ) → Makes s x before kind next beside → s .processes x ≡ some (process before h) → Holds next q
-      → Suffix (entry kind before ∷ h) (historyAt (apply w s) x) → Knows (apply w s) q x (entry kind before ∷ h)
+      → Suffix (entryWith kind before ∷ h) (historyAt (apply w s) x) → Knows (apply w s) q x (entryWith kind before ∷ h)
   unfolding asRec Learnt
   learns q (alone (by-seq e)) i n st = still q i (laws .seq (had-good laws sound (now i)) e .pids q n) st
   learns {x} {before} {h} q (alone (by-self e)) i n st = go (laws .self x (place-below laws sound i) (had-good laws sound (now i)) e .pids q n)
     where
-      go : Holds before q ⊎ (q ≡ x) → Knows (apply w s) q x (entry self before ∷ h)
+      go : Holds before q ⊎ (q ≡ x) → Knows (apply w s) q x (entryWith self before ∷ h)
       go (inl n) = still q i n st
       go (inr u) = rw u itself
   learns q (alone (by-check e)) i n st = still q i (laws .check (had-good laws sound (now i)) e .0 .pids q n) st
@@ -87,7 +87,7 @@ module _ {s : State} (laws : LawsAt s) (sound : Sound s) (learnt : Learnt s) {d 
       got : Among (Is m) s x
       got = inl (rw (pick-is takes (s .queues x) j) (any-middle older m newer refl))
 
-      told : Holds (m .value) q → Knows (apply w s) q x (entry (rec older m newer) before ∷ h)
+      told : Holds (m .value) q → Knows (apply w s) q x (entryWith (rec older m newer) before ∷ h)
       told n =
           let (g, z) = sent-as x (mail sound x got) in
           let y = sent-stays-as x (inr (suffix-taken st refl)) z in
@@ -95,12 +95,12 @@ module _ {s : State} (laws : LawsAt s) (sound : Sound s) (learnt : Learnt s) {d 
           let holds = laws .send (had-good laws sound (past (z .stands))) (said .sends) .value-pids q n in
           heard y (knows-stays (learnt (m .sender) q (z .entry .before) g (past (z .stands)) holds) (suffix-tail (y .stands)) (suffix-lives (apply w s) (m .sender) (y .stands)))
 
-      go : Holds before q ⊎ Holds (m .value) q → Knows (apply w s) q x (entry (rec older m newer) before ∷ h)
+      go : Holds before q ⊎ Holds (m .value) q → Knows (apply w s) q x (entryWith (rec older m newer) before ∷ h)
       go (inl n) = still q i n st
       go (inr n) = told n
   learns {x} {before} {h} q (by-spawn {f} e below _) i n st = go (laws .spawn-next f below (had-good laws sound (now i)) e .pids q n)
     where
-      go : Holds before q ⊎ (q ≡ f) → Knows (apply w s) q x (entry (spawn f) before ∷ h)
+      go : Holds before q ⊎ (q ≡ f) → Knows (apply w s) q x (entryWith (spawn f) before ∷ h)
       go (inl n) = still q i n st
       go (inr u) = rw u maker
 

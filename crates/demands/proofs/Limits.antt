@@ -16,7 +16,7 @@ use Rattle.term.specs.Module.{checkModule}
 use Rattle.rules.specs.State.{seq, send, spawn, asSend, asRec, asSpawn, asCheck, Entry, Process, State, historyAt, entryAt, inPool}
 use Rattle.rules.specs.Flight.{letterOr, sent, alsoTaken, taken}
 use Rattle.rules.specs.Load.{goodSizes, newProcess}
-use Rattle.rules.specs.Commands.{step, makes, undoes, entry, runState}
+use Rattle.rules.specs.Commands.{step, makes, undoes, entryWith, runState}
 use Rattle.rules.specs.Rules.{process, makingOf}
 use Rattle.rules.specs.Sound.{SoundControl, distinct, Flows, SpawnedBy, Sound}
 use Rattle.rules.specs.Independent.{Apart, actor, mailbox, actsAt, ifRec, receiver, spawnsInto, unspawns, Unsends, Crossed}
@@ -112,9 +112,9 @@ still-sound {s} r = record {
 -- a value that says it was made by a step from another value, which steps nowhere
 stale : State
 unfolding still
-stale = still 1 (process (0x02000001 ∷ []) (entry seq (0x02000005 ∷ []) ∷ []) ∷ [])
+stale = still 1 (process (0x02000001 ∷ []) (entryWith seq (0x02000005 ∷ []) ∷ []) ∷ [])
 
-stale-entry : {e : Entry} (p i : ℕ) → entryAt (historyAt stale p) i ≡ some e → e ≡ entry seq (0x02000005 ∷ [])
+stale-entry : {e : Entry} (p i : ℕ) → entryAt (historyAt stale p) i ≡ some e → e ≡ entryWith seq (0x02000005 ∷ [])
 unfolding stale still placed opened
 stale-entry {e} zero i stands = let (g, st, n) = entry-suffix (historyAt stale 0) i stands in elim (suffix-cons st) [ inl x ↦ x .0 | inr x ↦ no-suffix x refl ]
 stale-entry {e} (suc p) i stands = none-not-some stands
@@ -172,19 +172,19 @@ atom5 = 0x02000005 ∷ []
 
 stranger : State
 unfolding still
-stranger = still 3 (process (0x02000001 ∷ []) (entry (spawn 1) atom5 ∷ entry (spawn 2) atom5 ∷ []) ∷ newProcess atom5 ∷ newProcess (0x0E020000 ∷ 0x04000001 ∷ 0x02000005 ∷ []) ∷ [])
+stranger = still 3 (process (0x02000001 ∷ []) (entryWith (spawn 1) atom5 ∷ entryWith (spawn 2) atom5 ∷ []) ∷ newProcess atom5 ∷ newProcess (0x0E020000 ∷ 0x04000001 ∷ 0x02000005 ∷ []) ∷ [])
 
 -- its entries are the two spawns of 0
 record Spawn (p i q : ℕ) (e : Entry) : Type 0 where
   at-0 : p ≡ 0
-  is : e ≡ entry (spawn q) atom5
+  is : e ≡ entryWith (spawn q) atom5
   which : ((q ≡ 1) × (i ≡ 1)) ⊎ ((q ≡ 2) × (i ≡ 0))
 
 stranger-entry : {e : Entry} (p i : ℕ) → entryAt (historyAt stranger p) i ≡ some e → (q : ℕ) × Spawn p i q e
 unfolding stranger still placed opened
 stranger-entry {e} zero i stands = let (g, st, n) = entry-suffix (historyAt stranger 0) i stands in go g n (suffix-cons st)
   where
-    go : (g : List Entry) → length g ≡ i → ((e ≡ entry (spawn 1) atom5) × (g ≡ entry (spawn 2) atom5 ∷ [])) ⊎ Suffix (e ∷ g) (entry (spawn 2) atom5 ∷ []) → (q : ℕ) × Spawn 0 i q e
+    go : (g : List Entry) → length g ≡ i → ((e ≡ entryWith (spawn 1) atom5) × (g ≡ entryWith (spawn 2) atom5 ∷ [])) ⊎ Suffix (e ∷ g) (entryWith (spawn 2) atom5 ∷ []) → (q : ℕ) × Spawn 0 i q e
     go g n (inl x) = (1, record { at-0 = refl; is = x .0; which = inl (refl, sym n ∙ ap length (x .1)) })
     go g n (inr st) = elim (suffix-cons st) [ inl x ↦ (2, record { at-0 = refl; is = x .0; which = inr (refl, sym n ∙ ap length (x .1)) }) | inr x ↦ no-suffix x refl ]
 stranger-entry {e} (suc zero) i stands = none-not-some stands
@@ -243,8 +243,8 @@ stranger-sound = still-sound (record {
 
     born : (q : ℕ) → inPool stranger q ≡ true → ¬ (q ≡ 0) → (p : ℕ) × (i : ℕ) × SpawnedBy stranger q p i
     born zero live n = absurd (n refl)
-    born (suc zero) live n = (0, 1, record { entry = entry (spawn 1) atom5; stands = refl; spawns = refl })
-    born (suc (suc zero)) live n = (0, 0, record { entry = entry (spawn 2) atom5; stands = refl; spawns = refl })
+    born (suc zero) live n = (0, 1, record { entry = entryWith (spawn 1) atom5; stands = refl; spawns = refl })
+    born (suc (suc zero)) live n = (0, 0, record { entry = entryWith (spawn 2) atom5; stands = refl; spawns = refl })
     born (suc (suc (suc q))) live n = true-not-false live refl
 
     once : (q p i p′ i′ : ℕ) → (p ≡ 0) × (((q ≡ 1) × (i ≡ 1)) ⊎ ((q ≡ 2) × (i ≡ 0))) → (p′ ≡ 0) × (((q ≡ 1) × (i′ ≡ 1)) ⊎ ((q ≡ 2) × (i′ ≡ 0))) → (p ≡ p′) × (i ≡ i′)

@@ -12,7 +12,7 @@ use Rattle.lists.proofs.Tables.{put-same}
 use Rattle.lists.proofs.Tests.{none-not-some, some-injective}
 use Rattle.rules.specs.State.{Message, Letter, Taking, taking, Kind, asSend, asRec, asSpawn, State, historyOf, historyAt}
 use Rattle.rules.specs.Flight.{sends, taken, alsoTaken}
-use Rattle.rules.specs.Commands.{Deed, makes, undoes, delivers, undelivers, Move, setProcess, setQueue, setBeside, apply, entry}
+use Rattle.rules.specs.Commands.{Deed, makes, undoes, delivers, undelivers, Move, setProcess, setQueue, setBeside, apply, entryWith}
 use Rattle.rules.specs.Rules.{message}
 use Rattle.rules.specs.Independent.{Apart, actor, mailbox, actsAt, ifRec, receiver, spawnsInto, unspawns, Unsends, Crossed, IndependentDeeds}
 use Rattle.rules.specs.Reverse.{isForward}
@@ -38,7 +38,7 @@ use Rattle.demands.proofs.Cut.{Closed, later-depends}
 -- ---- a step and an undo that are not independent: what the step does depends on what the undo would take
 -- the entry that an undo takes, seen from above
 top-stands : {s t : State} {p n : ℕ} {kind : Kind} {u : Move} → Under s t → (b : Does s (undoes p n kind) u)
-    → Stands t p (level (apply u s) (entriesOf p)) (entry kind (popped b .0)) (historyAt (apply u s) p)
+    → Stands t p (level (apply u s) (entriesOf p)) (entryWith kind (popped b .0)) (historyAt (apply u s) p)
 unfolding level
 top-stands {p} under b = record { at = suffix-trans (suffix-top (popped b .1)) (under .suffixes p); index = refl }
 
@@ -156,18 +156,18 @@ module _ {s : State} {w u : Move} (sound : Sound s) (after : Sound (apply w s)) 
       At : ℕ → Type 0
       At o = dependsAtOnce (apply w s) (event (deliveriesTo t) (level s (deliveriesTo t))) (event (entriesOf o) (level (apply u s) (entriesOf p))) ≡ true
 
-      top : Stands (apply w s) p (level (apply u s) (entriesOf p)) (entry kind′ (popped b .0)) (historyAt (apply u s) p)
+      top : Stands (apply w s) p (level (apply u s) (entriesOf p)) (entryWith kind′ (popped b .0)) (historyAt (apply u s) p)
       top = top-stands (D .under) b
 
       since : (x : List Message) (m : Message) (z : List Message) → asRec kind′ ≡ some (taking x m z) → t ≡ p → ⊥
       since x m z is e =
           let q = undone-lacks {sender = sender} {k = k} b is (λ c. flight-fresh (delivered-last sound a .1) (subst (Came s sender k) (sym e) c)) in
-          no-on (subst At e (on-since new (subst (λ o. Stands (apply w s) o (level (apply u s) (entriesOf p)) (entry kind′ (popped b .0)) (historyAt (apply u s) p)) (sym e) top) is (q .0) (q .1)))
+          no-on (subst At e (on-since new (subst (λ o. Stands (apply w s) o (level (apply u s) (entriesOf p)) (entryWith kind′ (popped b .0)) (historyAt (apply u s) p)) (sym e) top) is (q .0) (q .1)))
 
       sent-it : (o : Option Letter) → asSend kind′ ≡ o → (sender ≡ p) × (k ≡ n) × ¬ (asSend kind′ ≡ none) → ⊥
       sent-it none is (e, i, x) = x is
       sent-it (some l) is (e, i, x) =
-          no-on (subst At e (on-send {n = came} new (subst (λ o. Stands (apply w s) o (level (apply u s) (entriesOf p)) (entry kind′ (popped b .0)) (historyAt (apply u s) p)) (sym e) top) is (undone-count b is ∙ sym i)))
+          no-on (subst At e (on-send {n = came} new (subst (λ o. Stands (apply w s) o (level (apply u s) (entriesOf p)) (entryWith kind′ (popped b .0)) (historyAt (apply u s) p)) (sym e) top) is (undone-count b is ∙ sym i)))
   free-unless (delivers sender k t) (undelivers t′) a f b y no-on = record {
     actors = tt;
     mailboxes = λ e. no-on (subst (λ z. dependsAtOnce (apply w s) (event (deliveriesTo t) (level s (deliveriesTo t))) (event (deliveriesTo z) (level (apply u s) (deliveriesTo t′))) ≡ true) e

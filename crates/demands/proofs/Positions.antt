@@ -14,7 +14,7 @@ use Rattle.lists.proofs.Tests.{none-not-some, some-injective}
 use Rattle.rules.specs.State.{Kind, spawn, asSpawn, Entry, Process, State, historyOf, historyAt, inPool}
 use Rattle.rules.specs.Flight.{sends}
 use Rattle.rules.specs.Load.{newProcess}
-use Rattle.rules.specs.Commands.{Deed, makes, undoes, Beside, Move, turn, other, setProcess, setQueue, setBeside, apply, entry}
+use Rattle.rules.specs.Commands.{Deed, makes, undoes, Beside, Move, turn, other, setProcess, setQueue, setBeside, apply, entryWith}
 use Rattle.rules.specs.Rules.{process}
 use Rattle.rules.specs.Independent.{spawnsInto}
 use Rattle.rules.specs.Standing.{Suffix, older}
@@ -37,7 +37,7 @@ pub suffix-was : {s : State} {d : Deed} {x : ℕ} {e : Entry} {g h h′ : List E
 suffix-was (same i) st = inl (rw i at st)
 suffix-was {s} {d} {x} {e} {g} {h} (grown {next} {beside} kind control i u w mk) st = go (suffix-cons (rw i at st))
   where
-    go : ((e ≡ entry kind control) × (g ≡ h)) ⊎ Suffix (e ∷ g) h → Suffix (e ∷ g) h ⊎ New s d x e g
+    go : ((e ≡ entryWith kind control) × (g ≡ h)) ⊎ Suffix (e ∷ g) h → Suffix (e ∷ g) h ⊎ New s d x e g
     go (inr r) = inl r
     go (inl (j, f)) =
         let k : kind ≡ e .kind = ap (λ y. y .kind) (sym j) in
@@ -58,7 +58,7 @@ suffix-stays (same i) st = inl (rw i st)
 suffix-stays (grown kind control i u w mk) st = inl (rw i (older st))
 suffix-stays {d} {x} {e} {g} {h} {h′} (shrunk kind before i u) st = go (suffix-cons (rw i at st))
   where
-    go : ((e ≡ entry kind before) × (g ≡ h′)) ⊎ Suffix (e ∷ g) h′ → Suffix (e ∷ g) h′ ⊎ ((d ≡ undoes x (sends g) (e .kind)) × (g ≡ h′))
+    go : ((e ≡ entryWith kind before) × (g ≡ h′)) ⊎ Suffix (e ∷ g) h′ → Suffix (e ∷ g) h′ ⊎ ((d ≡ undoes x (sends g) (e .kind)) × (g ≡ h′))
     go (inr r) = inl r
     go (inl (j, f)) = inr (u ∙ (λ l. undoes x (sends (sym f l)) (sym j l .kind)), f)
 
@@ -75,7 +75,7 @@ suffix-lives {e} {g} s x st = go (s .processes x) refl st
 -- the control is or was that of x, with the history g
 pub data Had (s : State) (x : ℕ) (control : List ℕ) (g : List Entry) : Type 0 where
   now : s .processes x ≡ some (process control g) → Had s x control g
-  past : {kind : Kind} → Suffix (entry kind control ∷ g) (historyAt s x) → Had s x control g
+  past : {kind : Kind} → Suffix (entryWith kind control ∷ g) (historyAt s x) → Had s x control g
 
 pub had-lives : {s : State} {x : ℕ} {control : List ℕ} {g : List Entry} → Had s x control g → inPool s x ≡ true
 had-lives {s} {x} (now i) = in-pool s x i
@@ -84,7 +84,7 @@ had-lives {s} {x} (past st) = suffix-lives s x st
 -- a position that is new: p's own after its step, or its child's
 pub data Fresh (s after : State) (d : Deed) (x : ℕ) (control : List ℕ) (g : List Entry) : Type 0 where
   made : {kind : Kind} {before : List ℕ} {h : List Entry} {beside : Beside} → Makes s x before kind control beside → s .processes x ≡ some (process before h)
-      → g ≡ entry kind before ∷ h → length h < s .sizes .entries → length control ≤ s .sizes .words → Fresh s after d x control g
+      → g ≡ entryWith kind before ∷ h → length h < s .sizes .entries → length control ≤ s .sizes .words → Fresh s after d x control g
   child : (new : Spawning s after d x) → control ≡ new .child → g ≡ [] → Fresh s after d x control g
 
 split : {p x : ℕ} {n : Process} (m : Process) (f : ℕ → Option Process) → Dec (p ≡ x) → put p (some m) f x ≡ some n → ((p ≡ x) × (m ≡ n)) ⊎ (f x ≡ some n)
@@ -94,16 +94,16 @@ split {p} {x} m f (no n) e = inr (sym (put-other p (some m) f x n) ∙ e)
 module _ {s : State} {x : ℕ} {control : List ℕ} {g : List Entry} where
   made-at : {after : State} {d : Deed} {p : ℕ} {kind : Kind} {before next : List ℕ} {h : List Entry} {beside : Beside} → s .processes p ≡ some (process before h)
       → Makes s p before kind next beside → length h < s .sizes .entries → length next ≤ s .sizes .words
-      → ((p ≡ x) × (process next (entry kind before ∷ h) ≡ process control g)) ⊎ (s .processes x ≡ some (process control g)) → Had s x control g ⊎ Fresh s after d x control g
+      → ((p ≡ x) × (process next (entryWith kind before ∷ h) ≡ process control g)) ⊎ (s .processes x ≡ some (process control g)) → Had s x control g ⊎ Fresh s after d x control g
   made-at {p} {kind} {before} {next} {h} {beside} i mk r z (inl (u, f)) =
       let c : next ≡ control = ap (λ y. y .control) f in
       inr (made (subst (λ o. Makes s x before kind o beside) c (subst (λ o. Makes s o before kind next beside) u mk)) (ap (s .processes) (sym u) ∙ i) (sym (ap (λ y. y .history) f)) r (rw c at z))
   made-at i mk _ _ (inr r) = inl (now r)
 
-  gone-at : {after : State} {d : Deed} {p : ℕ} {kind : Kind} {before top : List ℕ} {h : List Entry} → s .processes p ≡ some (process top (entry kind before ∷ h))
+  gone-at : {after : State} {d : Deed} {p : ℕ} {kind : Kind} {before top : List ℕ} {h : List Entry} → s .processes p ≡ some (process top (entryWith kind before ∷ h))
       → ((p ≡ x) × (process before h ≡ process control g)) ⊎ (s .processes x ≡ some (process control g)) → Had s x control g ⊎ Fresh s after d x control g
   gone-at {p} {kind} {before} {h} i (inl (u, f)) =
-      inl (past {kind = kind} (suffix-top (history-of s x (ap (s .processes) (sym u) ∙ i) ∙ (λ l. entry kind (f l .control) ∷ f l .history))))
+      inl (past {kind = kind} (suffix-top (history-of s x (ap (s .processes) (sym u) ∙ i) ∙ (λ l. entryWith kind (f l .control) ∷ f l .history))))
   gone-at i (inr r) = inl (now r)
 
 now-was : {s : State} {d : Deed} {w : Move} {x : ℕ} {control : List ℕ} {g : List Entry} → Does s d w → (apply w s) .processes x ≡ some (process control g)
@@ -115,9 +115,9 @@ now-was {s} {x} (forward {p} i (by-receive j v) r z) e = made-at i (by-receive j
 now-was {s} {x} {control} {g} (forward {p} {control = before} {history = h} i (by-spawn {child = first} {next} {f = q} j n v) r z) e = go (split (newProcess first) _ (ℕ-discrete q x) e)
   where
     after : State
-    after = apply (turn p (process (next q) (entry (spawn q) before ∷ h)) (other q (some (newProcess first)))) s
+    after = apply (turn p (process (next q) (entryWith (spawn q) before ∷ h)) (other q (some (newProcess first)))) s
 
-    go : ((q ≡ x) × (newProcess first ≡ process control g)) ⊎ (put p (some (process (next q) (entry (spawn q) before ∷ h))) (s .processes) x ≡ some (process control g))
+    go : ((q ≡ x) × (newProcess first ≡ process control g)) ⊎ (put p (some (process (next q) (entryWith (spawn q) before ∷ h))) (s .processes) x ≡ some (process control g))
         → Had s x control g ⊎ Fresh s after (makes p (spawn q)) x control g
     go (inl (u, y)) =
         let new = spawning {x = x} (forward i (by-spawn j n v) r z) (ap some u) in

@@ -12,7 +12,7 @@ use Rattle.lists.proofs.Tables.{put-same, put-other}
 use Rattle.lists.proofs.Tests.{true-not-false, true-or-false, none-not-some, some-injective, and-left, and-right, and-of, not-true, or-true, or-left, or-right}
 use Rattle.rules.specs.State.{Message, Letter, letter, Taking, taking, Kind, asSend, asRec, asSpawn, Entry, Process, State, historyOf, historyAt, isProcess, inPool, isNamed}
 use Rattle.rules.specs.Flight.{sends, sent, alsoTaken, taken, left, hasCome, flies}
-use Rattle.rules.specs.Commands.{Deed, undoes, delivers, Beside, Move, setProcess, setQueue, setBeside, apply, entry}
+use Rattle.rules.specs.Commands.{Deed, undoes, delivers, Beside, Move, setProcess, setQueue, setBeside, apply, entryWith}
 use Rattle.rules.specs.Rules.{message, InFlight}
 use Rattle.rules.specs.Independent.{Apart, actor, ifRec, receiver, spawnsInto, unspawns, Unsends}
 use Rattle.demands.proofs.Does.{Makes, alone, by-send, by-receive, by-spawn, undo-alone, undo-send, undo-receive, undo-spawn, Does, forward, backward, sched, unsched}
@@ -103,8 +103,8 @@ recs-stay : {A : Type 0} (f : List Entry → A) → ((e : Entry) (h : List Entry
     → {s : State} {d : Deed} {x : ℕ} {h h′ : List Entry} → Turned s d x h h′ → Apart (receiver d) (some x) → f h′ ≡ f h
 unfolding receiver
 recs-stay f only (same i) a = ap f i
-recs-stay f only {x} {h} (grown kind c i u _ _) a = ap f i ∙ only (entry kind c) h (no-rec kind x (rw u at a))
-recs-stay f only {x} {h′} (shrunk kind c i u) a = sym (ap f i ∙ only (entry kind c) h′ (no-rec kind x (rw u at a)))
+recs-stay f only {x} {h} (grown kind c i u _ _) a = ap f i ∙ only (entryWith kind c) h (no-rec kind x (rw u at a))
+recs-stay f only {x} {h′} (shrunk kind c i u) a = sym (ap f i ∙ only (entryWith kind c) h′ (no-rec kind x (rw u at a)))
 
 -- so does what the newest rec left, ..
 pub left-stays : {s : State} {d : Deed} {x : ℕ} {h h′ : List Entry} → Turned s d x h h′ → Apart (receiver d) (some x) → left h′ ≡ left h

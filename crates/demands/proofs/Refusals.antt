@@ -15,7 +15,7 @@ use Rattle.rules.specs.Answers.{noProcess, finished, stuck, wrongCommand, place
 use Rattle.rules.specs.State.{Message, Letter, letter, Kind, seq, send, rec, spawn, self, check, Entry, Process, State, historyAt, inPool, sameQueue}
 use Rattle.rules.specs.Flight.{sends, sent, left, flies, awaited}
 use Rattle.rules.specs.Load.{newProcess}
-use Rattle.rules.specs.Commands.{Command, step, spawnInto, deliver, back, undeliver, Deed, makes, Beside, nothing, other, Move, turn, Plan, refuse, accept, need, Picked, picked, pick, entry, making, receiving, stepping, spawning, undone, isNew, untouched, undoing, backing, undelivering, delivering, atProcess, run}
+use Rattle.rules.specs.Commands.{Command, step, spawnInto, deliver, back, undeliver, Deed, makes, Beside, nothing, other, Move, turn, Plan, refuse, accept, need, Picked, picked, pick, entryWith, making, receiving, stepping, spawning, undone, isNew, untouched, undoing, backing, undelivering, delivering, atProcess, run}
 use Rattle.rules.specs.Rules.{process, About, makingOf, commandOf}
 use Rattle.rules.specs.Rules
 use Rattle.rules.specs.Refusals.{For, for-step, for-spawn, for-back, for-undeliver, Goes, goes-step, goes-spawn, Refused, not-in-pool, is-finished, step-at-spawn, spawn-elsewhere, nothing-matches, is-stuck, target-missing, beyond-places, place-in-pool, too-large, history-full, NoSpawn, not-in-flight, no-entry, no-message-queued, entry-held, message-held}
@@ -37,7 +37,7 @@ accept-not-refuse : {B : Type 0} {d : Deed} {w : Move} {n : ℕ} → accept d w 
 accept-not-refuse e = refused (sym e)
 
 -- a test that is needed and fails gives its number, or it holds and the rest is refused
-need-refuses : {plan : Plan} {n : ℕ} (b : Bool) (m : ℕ) → need b m plan ≡ refuse n → ((b ≡ false) × (m ≡ n)) ⊎ ((b ≡ true) × (plan ≡ refuse n))
+pub need-refuses : {plan : Plan} {n : ℕ} (b : Bool) (m : ℕ) → need b m plan ≡ refuse n → ((b ≡ false) × (m ≡ n)) ⊎ ((b ≡ true) × (plan ≡ refuse n))
 unfolding need
 need-refuses true m e = inr (refl, e)
 need-refuses false m e = inl (refl, refuse-same e)
@@ -56,7 +56,7 @@ module _ (s : State) (p : ℕ) (control : List ℕ) (h : List Entry) {n : ℕ} (
   not-made {kind} {next} {beside} mk e = go (need-refuses (leb (length next) (s .sizes .words)) tooLarge e)
     where
       rest : Plan
-      rest = accept (makes p kind) (turn p (process next (entry kind control ∷ h)) beside)
+      rest = accept (makes p kind) (turn p (process next (entryWith kind control ∷ h)) beside)
 
       full : length next ≤ s .sizes .words → ((ltb (length h) (s .sizes .entries) ≡ false) × (historyFull ≡ n)) ⊎ ((ltb (length h) (s .sizes .entries) ≡ true) × (rest ≡ refuse n)) → Refused s (makingOf p kind) n
       full fits (inl (f, m)) = subst (Refused s (makingOf p kind)) m (history-full (makes-so i mk) fits (ltb-false (length h) (s .sizes .entries) f))
@@ -201,27 +201,27 @@ module _ (s : State) (ends : PoolEnds s) where
   spawns-elsewhere p f (toSelf next) a unfinished no-spawn = rw (a .stands, a .is) refl
   spawns-elsewhere p f (toCheck number next) a unfinished no-spawn = rw (a .stands, a .is) refl
 
-  holds-entry : (p : ℕ) {control before : List ℕ} {older : List Entry} {kind : Kind} → s .processes p ≡ some (process control (entry kind before ∷ older))
+  holds-entry : (p : ℕ) {control before : List ℕ} {older : List Entry} {kind : Kind} → s .processes p ≡ some (process control (entryWith kind before ∷ older))
       → ((after : State) → ¬ Rules.Undoes s p before older kind after) → run (back p) s ≡ refuse held
   unfolding run atProcess backing commandOf isForward
   holds-entry p {control} {before} {older} {kind} i none-undoes = go (run (back p) s) refl
     where
-      ran : run (back p) s ≡ undoing s p (entry kind before) older kind
+      ran : run (back p) s ≡ undoing s p (entryWith kind before) older kind
       ran = rw i refl
 
       undone-anyway : {d : Deed} {w : Move} → Does s d w → commandOf d ≡ back p → ⊥
       undone-anyway (forward {p = p′} {kind = kind′} _ _ _ _) is = true-not-false (sym (ap isForward is) ∙ makes-forward p′ kind′) refl
       undone-anyway (backward {p = p′} {before = before′} {older = older′} {kind = kind′} {beside} j un) is =
           let place : p′ ≡ p = cc in
-          let entries : entry kind′ before′ ∷ older′ ≡ entry kind before ∷ older = process-history (sym j ∙ ap (s .processes) place ∙ i) in
-          let tops : entry kind′ before′ ≡ entry kind before = cc in
+          let entries : entryWith kind′ before′ ∷ older′ ≡ entryWith kind before ∷ older = process-history (sym j ∙ ap (s .processes) place ∙ i) in
+          let tops : entryWith kind′ before′ ≡ entryWith kind before = cc in
           let rests : older′ ≡ older = cc in
           none-undoes _ (undoes-so (subst (λ x. x) (λ l. Undoes s (place l) (sends (rests l)) (tops l .kind) beside) un))
       undone-anyway (sched _ _) is = let z : _≡_ {A = ℕ} 0 1 = cc in omega arith
       undone-anyway (unsched _ _ _ _) is = let z : _≡_ {A = ℕ} 0 1 = cc in omega arith
 
       go : (plan : Plan) → run (back p) s ≡ plan → run (back p) s ≡ refuse held
-      go (refuse number) e = e ∙ ap refuse (sym (undoing-number s p (entry kind before) older kind (sym ran ∙ e)))
+      go (refuse number) e = e ∙ ap refuse (sym (undoing-number s p (entryWith kind before) older kind (sym ran ∙ e)))
       go (accept d w) e = let (does, is) = run-sound s ends (back p) e in absurd (undone-anyway does is)
 
   message-stays : (p : ℕ) → inPool s p ≡ true → s .queues p ≢ [] → length (s .queues p) ≤ length (left (historyAt s p)) → run (undeliver p) s ≡ refuse held

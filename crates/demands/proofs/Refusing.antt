@@ -1,6 +1,6 @@
 -- What a test that is needed says of a refused plan, and with which numbers an entry is not made.
 use Prim.Native.Nat.{ℕ, _≤_}
-use mathlib.Core.Path.{_≡_, refl, sym}
+use mathlib.Core.Path.{_≡_, sym}
 use mathlib.Core.Logic.{_≢_, _⊎_, inl, inr}
 use mathlib.Core.Bool.{Bool, true, false}
 use mathlib.Core.List.{List}
@@ -11,14 +11,11 @@ use Rattle.rules.specs.Answers.{tooLarge, historyFull}
 use Rattle.rules.specs.State.{Kind, Process, State}
 use Rattle.rules.specs.Commands.{Beside, Plan, refuse, need, making}
 use Rattle.demands.proofs.Plans.{refused}
-use Rattle.demands.proofs.Refusals.{refuse-same}
+use Rattle.demands.proofs.Refusals.{need-refuses}
 
 -- a test that has another number, or holds, leaves the rest
 pub need-past : {plan : Plan} {m n : ℕ} (b : Bool) → (m ≢ n) ⊎ (b ≡ true) → need b m plan ≡ refuse n → (b ≡ true) × (plan ≡ refuse n)
-unfolding need
-need-past true h e = (refl, e)
-need-past false (inl h) e = absurd (h (refuse-same e))
-need-past false (inr h) e = true-not-false h refl
+need-past {m} b h e = elim (need-refuses b m e) [ inl z ↦ elim h [ inl d ↦ absurd (d (z .1)) | inr t ↦ true-not-false t (z .0) ] | inr z ↦ z ]
 
 -- an entry is refused with no other number than 9 and 10, and with 9 only where the next control is too long
 pub made-not : (s : State) (p : ℕ) (a : Process) (kind : Kind) (next : List ℕ) (beside : Beside) {n : ℕ} → (tooLarge ≢ n) ⊎ (length next ≤ s .sizes .words) → historyFull ≢ n

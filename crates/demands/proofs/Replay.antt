@@ -12,7 +12,7 @@ use Rattle.machine.specs.Work.{toSend, toReceive, toSpawn, work}
 use Rattle.rules.specs.State.{Message, Kind, send, rec, spawn, asSpawn, Entry, State, historyAt}
 use Rattle.rules.specs.Flight.{sends}
 use Rattle.rules.specs.Load.{newProcess}
-use Rattle.rules.specs.Commands.{Deed, makes, undoes, Beside, nothing, other, Move, turn, setProcess, setQueue, setBeside, apply, picked, pick, entry}
+use Rattle.rules.specs.Commands.{Deed, makes, undoes, Beside, nothing, other, Move, turn, setProcess, setQueue, setBeside, apply, picked, pick, entryWith}
 use Rattle.rules.specs.Rules.{process, makingOf, commandOf}
 use Rattle.rules.specs.Independent.{spawnsInto, unspawns, Apart}
 use Rattle.rules.specs.Sound.{Sound}
@@ -49,8 +49,8 @@ replays-after {s} {control} w (again-spawn {q} e below) = again-spawn {q = q} (w
 
 -- each entry's control before steps to the next control; a child's first control is its spawn's
 pub record Told (s : State) : Type 0 where
-  pub steps : {x : ℕ} {before next : List ℕ} {kind : Kind} {h : List Entry} → Had s x next (entry kind before ∷ h) → Replays s x before kind next
-  pub first : {q : ℕ} {before control : List ℕ} {g : List Entry} (x : ℕ) → Suffix (entry (spawn q) before ∷ g) (historyAt s x) → Had s q control []
+  pub steps : {x : ℕ} {before next : List ℕ} {kind : Kind} {h : List Entry} → Had s x next (entryWith kind before ∷ h) → Replays s x before kind next
+  pub first : {q : ℕ} {before control : List ℕ} {g : List Entry} (x : ℕ) → Suffix (entryWith (spawn q) before ∷ g) (historyAt s x) → Had s q control []
       → (next : ℕ → List ℕ) × (work (s .module′) before ≡ toSpawn control next)
 
 module _ {s : State} (sound : Sound s) (told : Told s) {d : Deed} {w : Move} (a : Does s d w) where
@@ -58,23 +58,23 @@ module _ {s : State} (sound : Sound s) (told : Told s) {d : Deed} {w : Move} (a 
   unfolding asSpawn spawnsInto
   told-after = record { steps = steps; first = first }
     where
-      steps : {x : ℕ} {before next : List ℕ} {kind : Kind} {h : List Entry} → Had (apply w s) x next (entry kind before ∷ h) → Replays (apply w s) x before kind next
+      steps : {x : ℕ} {before next : List ℕ} {kind : Kind} {h : List Entry} → Had (apply w s) x next (entryWith kind before ∷ h) → Replays (apply w s) x before kind next
       steps {x} {before} {next} {kind} {h} p = replays-after w (go (had-was a p))
         where
-          go : Had s x next (entry kind before ∷ h) ⊎ Fresh s (apply w s) d x next (entry kind before ∷ h) → Replays s x before kind next
+          go : Had s x next (entryWith kind before ∷ h) ⊎ Fresh s (apply w s) d x next (entryWith kind before ∷ h) → Replays s x before kind next
           go (inl o) = told .steps o
           go (inr (made {kind = kind′} {before = before′} {h = h′} mk i e r t)) =
-              let top : entry kind before ≡ entry kind′ before′ = cc in
+              let top : entryWith kind before ≡ entryWith kind′ before′ = cc in
               let k : kind′ ≡ kind = ap (λ y. y .kind) (sym top) in
               let c : before′ ≡ before = ap (λ y. y .before) (sym top) in
               rw (k, c) at (made-replays mk)
           go (inr (child new c e)) = nil-cons (sym e)
 
-      first : {q : ℕ} {before control : List ℕ} {g : List Entry} (x : ℕ) → Suffix (entry (spawn q) before ∷ g) (historyAt (apply w s) x) → Had (apply w s) q control []
+      first : {q : ℕ} {before control : List ℕ} {g : List Entry} (x : ℕ) → Suffix (entryWith (spawn q) before ∷ g) (historyAt (apply w s) x) → Had (apply w s) q control []
           → (next : ℕ → List ℕ) × (work ((apply w s) .module′) before ≡ toSpawn control next)
       first {q} {before} {control} {g} x st p = let (next, e) = go (had-was a p) (suffix-was (turned x a) st) in (next, work-after s w before ∙ e)
         where
-          go : Had s q control [] ⊎ Fresh s (apply w s) d q control [] → Suffix (entry (spawn q) before ∷ g) (historyAt s x) ⊎ New s d x (entry (spawn q) before) g
+          go : Had s q control [] ⊎ Fresh s (apply w s) d q control [] → Suffix (entryWith (spawn q) before ∷ g) (historyAt s x) ⊎ New s d x (entryWith (spawn q) before) g
               → (next : ℕ → List ℕ) × (work (s .module′) before ≡ toSpawn control next)
           go (inl o) (inl r) = told .first x r o
           go (inl o) (inr n) = true-not-false (had-lives o) (spawns-free a (ap spawnsInto (n .is)))
@@ -87,7 +87,7 @@ module _ {s : State} (sound : Sound s) (told : Told s) {d : Deed} {w : Move} (a 
               (new .next, ap (work (s .module′)) (sym same-control) ∙ new .about ∙ ap (λ y. toSpawn y (new .next)) (sym c))
 
 -- back, then the same step
-again : {s : State} {p : ℕ} {before next : List ℕ} {h : List Entry} {kind : Kind} {beside : Beside} → Told s → s .processes p ≡ some (process next (entry kind before ∷ h))
+again : {s : State} {p : ℕ} {before next : List ℕ} {h : List Entry} {kind : Kind} {beside : Beside} → Told s → s .processes p ≡ some (process next (entryWith kind before ∷ h))
     → Undoes s p (sends h) kind beside → Replays s p before kind next → length h < s .sizes .entries → length next ≤ s .sizes .words
     → Undo (apply (turn p (process before h) beside) s) s (makingOf p kind)
 unfolding apply setBeside setProcess setQueue commandOf Apart unspawns asSpawn
@@ -130,4 +130,4 @@ again {s} {p} {before} {h} told i (undo-spawn {q} {first} j n v) (again-spawn {f
 
 pub redo : {s : State} {p n : ℕ} {kind : Kind} {w : Move} → Sound s → Told s → Does s (undoes p n kind) w → Undo (apply w s) s (makingOf p kind)
 redo {s} sound told (backward {p} {control} {before} {older} {kind} i un) =
-    again told i un (told .steps (now i)) (omega (arith, sound .history-fits p, ap length (history-of s p i))) (sound .controls p (process control (entry kind before ∷ older)) i .fits)
+    again told i un (told .steps (now i)) (omega (arith, sound .history-fits p, ap length (history-of s p i))) (sound .controls p (process control (entryWith kind before ∷ older)) i .fits)

@@ -11,12 +11,12 @@ use lib.ListN.{length}
 use Rattle.lists.specs.Lists.{keep}
 use Rattle.lists.proofs.Tests.{ltb-false, ltb-over}
 use Rattle.machine.proofs.WorkLaws.{work-laws}
-use Rattle.causal.specs.Paths.{Directed, stay, go}
+use Rattle.causal.specs.Directed.{Directed, stay, go}
 use Rattle.causal.specs.Exec.{Step}
 use Rattle.rules.specs.Answers.{held}
 use Rattle.rules.specs.State.{Sizes, Entry, State, historyAt}
 use Rattle.rules.specs.Load.{loaded}
-use Rattle.rules.specs.Commands.{Command, Deed, makes, undoes, delivers, undelivers, entry, runState}
+use Rattle.rules.specs.Commands.{Command, Deed, makes, undoes, delivers, undelivers, entryWith, runState}
 use Rattle.rules.specs.Rules.{process}
 use Rattle.rules.specs.Sound.{Sound}
 use Rattle.rules.specs.Depends.{queuesShown, shownIn, arrivals, Series, entriesOf, deliveriesTo, level, happened, WithDependents, event, Event}
@@ -65,7 +65,7 @@ had-back sound (took a b r) h = had-undone a b (had-back (sound-undone sound a b
 had-newer : {s : State} {x : ℕ} {control : List ℕ} {g : List Entry} → Had s x control g
     → (s .processes x ≡ some (process control g)) ⊎ ((newer : List Entry) × (e : Entry) × (historyAt s x ≡ newer ++ (e ∷ g)) × (e .before ≡ control))
 had-newer (now i) = inl i
-had-newer {control} (past {kind} st) = let (newer, i) = newer-of st in inr (newer, entry kind control, i, refl)
+had-newer {control} (past {kind} st) = let (newer, i) = newer-of st in inr (newer, entryWith kind control, i, refl)
 
 module _ {s end : State} {set : Event → Type 0} {n : ℕ} (sound : Sound s) (r : Removes s end set n) where
   below : (x : Series) → level end x ≤ level s x

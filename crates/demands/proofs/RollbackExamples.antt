@@ -19,7 +19,7 @@ use Rattle.rules.specs.Answers.{held}
 use Rattle.rules.specs.State.{letter, send, rec, check, asSend, asRec, asSpawn, asCheck, Entry, Process, historyOf, historyAt, entryAt, inPool}
 use Rattle.rules.specs.Flight.{taken}
 use Rattle.rules.specs.Load.{goodSizes}
-use Rattle.rules.specs.Commands.{entry}
+use Rattle.rules.specs.Commands.{entryWith}
 use Rattle.rules.specs.Sound.{SoundControl, AboutToSend, distinct, SentTo, Flows, Sound}
 use Rattle.rules.specs.Opened.{opened}
 use Rattle.rules.specs.RollbackCases.{someAtom, sendTo, message0, receivedFirst, held-received}
@@ -34,13 +34,13 @@ use Rattle.demands.proofs.RollbackDemands.{rollback-demands}
 use Rattle.demands.proofs.Frame.{in-pool, not-in-pool}
 
 abbrev sending : Entry
-sending = entry (send 0 someAtom) (sendTo 0x04000000)
+sending = entryWith (send 0 someAtom) (sendTo 0x04000000)
 
 abbrev receiving : Entry
-receiving = entry (rec [] message0 []) someAtom
+receiving = entryWith (rec [] message0 []) someAtom
 
 abbrev checking : Entry
-checking = entry (check 7) someAtom
+checking = entryWith (check 7) someAtom
 
 -- place 0 is the only one, with the three entries
 elsewhere : (p : ℕ) → ¬ (0 ≡ p) → receivedFirst .processes p ≡ none

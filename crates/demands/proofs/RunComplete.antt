@@ -12,7 +12,7 @@ use Rattle.lists.proofs.Lists.{butLast-before}
 use Rattle.rules.specs.Answers.{stuck, placeTaken, tooLarge, historyFull, noMessage, held}
 use Rattle.rules.specs.State.{Message, Kind, Entry, Process, State}
 use Rattle.rules.specs.Flight.{left}
-use Rattle.rules.specs.Commands.{Deed, makes, delivers, undelivers, Beside, Move, turn, post, accept, entry, making, receiving, stepping, spawning, undone, untouched, undoing, backing, undelivering, delivering, atProcess, run}
+use Rattle.rules.specs.Commands.{Deed, makes, delivers, undelivers, Beside, Move, turn, post, accept, entryWith, making, receiving, stepping, spawning, undone, untouched, undoing, backing, undelivering, delivering, atProcess, run}
 use Rattle.rules.specs.Rules.{process, message, makingOf, commandOf}
 use Rattle.demands.proofs.Does.{by-seq, by-self, by-check, Makes, alone, by-send, by-receive, by-spawn, seq-alone, self-alone, check-alone, undo-alone, undo-send, undo-receive, undo-spawn, Does, forward, backward, sched, unsched}
 use Rattle.demands.proofs.Messages.{queue-same}
@@ -20,7 +20,7 @@ use Rattle.demands.proofs.Frame.{process-of, history-of}
 use Rattle.demands.proofs.Plans.{need-true, of-quiet, of-new}
 
 allowed : (s : State) (p : ℕ) (control : List ℕ) (h : List Entry) {kind : Kind} {next : List ℕ} (beside : Beside) → length h < s .sizes .entries → length next ≤ s .sizes .words
-    → making s p (process control h) kind next beside ≡ accept (makes p kind) (turn p (process next (entry kind control ∷ h)) beside)
+    → making s p (process control h) kind next beside ≡ accept (makes p kind) (turn p (process next (entryWith kind control ∷ h)) beside)
 unfolding making
 allowed s p control h {next} beside room size =
     need-true tooLarge _ (leb-of (length next) (s .sizes .words) size) ∙ need-true historyFull _ (ltb-of (length h) (s .sizes .entries) room)

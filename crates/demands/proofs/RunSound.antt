@@ -14,7 +14,7 @@ use Rattle.machine.specs.Work
 use Rattle.rules.specs.Answers.{stuck, placeTaken, tooLarge, historyFull, noMessage, held}
 use Rattle.rules.specs.State.{Message, Letter, letter, Kind, seq, send, rec, spawn, self, check, asSend, Entry, Process, State, historyAt, inPool, sameQueue}
 use Rattle.rules.specs.Flight.{sends, sent, left, flies, awaited}
-use Rattle.rules.specs.Commands.{Command, step, spawnInto, deliver, back, undeliver, Deed, Beside, Move, accept, Picked, picked, pick, entry, making, receiving, stepping, spawning, undone, isNew, untouched, undoing, backing, undelivering, delivering, atProcess, run}
+use Rattle.rules.specs.Commands.{Command, step, spawnInto, deliver, back, undeliver, Deed, Beside, Move, accept, Picked, picked, pick, entryWith, making, receiving, stepping, spawning, undone, isNew, untouched, undoing, backing, undelivering, delivering, atProcess, run}
 use Rattle.rules.specs.Rules.{process, makingOf, commandOf}
 use Rattle.demands.proofs.Does.{by-seq, by-self, by-check, Makes, alone, by-send, by-receive, by-spawn, seq-alone, self-alone, check-alone, Undoes, undo-alone, undo-send, undo-receive, undo-spawn, Does, forward, backward, sched, unsched}
 use Rattle.demands.proofs.Messages.{same-queue}
@@ -66,13 +66,13 @@ module _ (s : State) (p : ℕ) (control : List ℕ) (h : List Entry) {d : Deed} 
   spawned f (toCheck number next) u e = refused e
 
 module _ (s : State) (ends : PoolEnds s) {d : Deed} {w : Move} where
-  undone-by : {p : ℕ} {control before : List ℕ} {older : List Entry} (kind : Kind) {beside : Beside} → s .processes p ≡ some (process control (entry kind before ∷ older))
-      → Undoes s p (sends older) kind beside → undone p (entry kind before) older beside ≡ accept d w → By s d w (back p)
+  undone-by : {p : ℕ} {control before : List ℕ} {older : List Entry} (kind : Kind) {beside : Beside} → s .processes p ≡ some (process control (entryWith kind before ∷ older))
+      → Undoes s p (sends older) kind beside → undone p (entryWith kind before) older beside ≡ accept d w → By s d w (back p)
   unfolding undone commandOf
   undone-by {p} kind i un e = accepted (λ d w. By s d w (back p)) e (backward i un, refl)
 
-  undoing-by : {p : ℕ} {control before : List ℕ} {older : List Entry} (kind : Kind) → s .processes p ≡ some (process control (entry kind before ∷ older))
-      → undoing s p (entry kind before) older kind ≡ accept d w → By s d w (back p)
+  undoing-by : {p : ℕ} {control before : List ℕ} {older : List Entry} (kind : Kind) → s .processes p ≡ some (process control (entryWith kind before ∷ older))
+      → undoing s p (entryWith kind before) older kind ≡ accept d w → By s d w (back p)
   unfolding undoing untouched asSend
   undoing-by seq i e = undone-by seq i (undo-alone seq-alone) e
   undoing-by {p} {older} (send target value) i e =

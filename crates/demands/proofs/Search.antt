@@ -10,7 +10,8 @@ use native.Mathlib.Omega.{arith}
 use lib.Dec.{ltb}
 use Rattle.lists.specs.Lists.{upTo}
 use Rattle.lists.proofs.Tests.{true-or-false, none-not-some, some-injective, ltb-true, ltb-of}
-use Rattle.lists.proofs.Members.{In, first, later, in-left, in-right, in-map, in-upTo}
+use Rattle.lists.specs.Members.{In, first, later}
+use Rattle.lists.proofs.Members.{in-left, in-right, in-map, in-upTo}
 use Rattle.rules.specs.State.{State}
 use Rattle.rules.specs.Commands.{apply, runState}
 use Rattle.rules.specs.Sound.{Sound}

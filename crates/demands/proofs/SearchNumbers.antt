@@ -15,7 +15,7 @@ use Rattle.lists.proofs.Tests.{true-or-false, none-not-some, some-injective}
 use Rattle.rules.specs.State.{Message, letter, Taking, taking, Kind, seq, send, rec, spawn, self, check, asSend, asRec, asSpawn, Entry, Process, State, historyOf, historyAt, inPool}
 use Rattle.rules.specs.Flight.{sends, taken, leftOr, left}
 use Rattle.rules.specs.Load.{newProcess}
-use Rattle.rules.specs.Commands.{Deed, undelivers, Beside, nothing, ownQueue, other, Move, post, entry, runState}
+use Rattle.rules.specs.Commands.{Deed, undelivers, Beside, nothing, ownQueue, other, Move, post, entryWith, runState}
 use Rattle.rules.specs.Rules.{process, InFlight}
 use Rattle.rules.specs.Sound.{Flows, Sound}
 use Rattle.rules.specs.Depends.{arrivals, Series, entriesOf, deliveriesTo, level, Event}
@@ -297,7 +297,7 @@ module _ {t : State} (sound : Sound t) where
   does-can (backward {p} i (undo-alone a)) x = can-alone (top-at i) a (top-level i)
   does-can (backward {p} i (undo-send f)) x = can-send (top-at i) refl (top-level i) λ j n r m. absurd (flight-fresh f (place-came r m))
   does-can (backward {p} {before} {older = h} i (undo-receive {m} {older = a} {newer = b} e)) x =
-      can-rec (top-at i) refl (top-level i) (level-at p ∙ ap length (ap (λ z. come z (t .queues p)) (history-of t p i) ∙ ap (come (entry (rec a m b) before ∷ h)) e ∙ come-taken a m b before h))
+      can-rec (top-at i) refl (top-level i) (level-at p ∙ ap length (ap (λ z. come z (t .queues p)) (history-of t p i) ∙ ap (come (entryWith (rec a m b) before ∷ h)) e ∙ come-taken a m b before h))
   does-can (backward {p} i (undo-spawn {q} j e n)) x =
       can-spawn (top-at i) refl (top-level i) (sym (level-history q) ∙ ap length (history-of t q j)) (omega (arith, level-come q, ap length e, ap (λ z. length (taken z)) (history-of t q j), ap length taken-nil))
       λ u k v f h st is.

@@ -13,7 +13,7 @@ use Rattle.term.specs.Control.{goodControl, moduleArities}
 use Rattle.machine.specs.Work.{work}
 use Rattle.machine.specs.Laws.{Good, GoodValue, WorkLaws}
 use Rattle.rules.specs.State.{Message, letter, Kind, asSend, asCheck, Entry, Process, State, historyAt, entryAt}
-use Rattle.rules.specs.Commands.{Deed, makes, Beside, Move, apply, entry}
+use Rattle.rules.specs.Commands.{Deed, makes, Beside, Move, apply, entryWith}
 use Rattle.rules.specs.Rules.{process}
 use Rattle.rules.specs.Sound.{SoundControl, AboutToSend, SentTo, Sound}
 use Rattle.demands.proofs.Does.{by-seq, by-self, by-check, Makes, alone, by-send, by-receive, by-spawn, Does}
@@ -38,7 +38,7 @@ module _ {s : State} (laws : LawsAt s) (sound : Sound s) where
 
   pub had-sound : {x : ℕ} {control : List ℕ} {g : List Entry} → Had s x control g → SoundControl s control
   had-sound {x} {control} {g} (now i) = sound .controls x (process control g) i
-  had-sound {x} {control} {g} (past {kind} st) = sound .controls-before x (length g) (entry kind control) (suffix-entry st)
+  had-sound {x} {control} {g} (past {kind} st) = sound .controls-before x (length g) (entryWith kind control) (suffix-entry st)
 
   pub had-good : {x : ℕ} {control : List ℕ} {g : List Entry} → Had s x control g → Good (s .module′) (s .sizes .places) control
   unfolding Good

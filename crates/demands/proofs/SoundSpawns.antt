@@ -9,7 +9,7 @@ use native.Mathlib.Omega.{arith}
 use lib.ListN.{length}
 use Rattle.lists.proofs.Tests.{true-not-false, true-or-false}
 use Rattle.rules.specs.State.{Kind, spawn, asSpawn, Entry, State, historyAt, entryAt, inPool}
-use Rattle.rules.specs.Commands.{Deed, makes, Move, apply, entry}
+use Rattle.rules.specs.Commands.{Deed, makes, Move, apply, entryWith}
 use Rattle.rules.specs.Rules.{process}
 use Rattle.rules.specs.Independent.{Apart, spawnsInto, unspawns}
 use Rattle.rules.specs.Sound.{SpawnedBy, Sound}
@@ -59,7 +59,7 @@ module _ {s : State} (sound : Sound s) {d : Deed} {w : Move} (a : Does s d w) wh
   unfolding asSpawn
   keeps-spawn q z = elim (at? q (unspawns d)) [
     | inl e ↦ let un = unspawning a e in
-        absurd (sound .place-0-unborn (un .at) (length (un .rest)) (record { entry = entry (spawn q) (un .before); stands = suffix-entry (suffix-top (un .top)); spawns = ap some z }))
+        absurd (sound .place-0-unborn (un .at) (length (un .rest)) (record { entry = entryWith (spawn q) (un .before); stands = suffix-entry (suffix-top (un .top)); spawns = ap some z }))
     | inr n ↦ n
   ]
 
@@ -102,7 +102,7 @@ module _ {s : State} (sound : Sound s) {d : Deed} {w : Move} (a : Does s d w) wh
 
       go : (spawnsInto d ≡ some q) ⊎ Apart (spawnsInto d) (some q) → (inPool s q ≡ true) ⊎ (inPool s q ≡ false) → (p : ℕ) × (i : ℕ) × SpawnedBy (apply w s) q p i
       go (inl e) _ = let new = spawning a e in
-          (new .at, length (new .rest), record { entry = entry (spawn q) (new .control); stands = suffix-entry (suffix-top (new .top)); spawns = refl })
+          (new .at, length (new .rest), record { entry = entryWith (spawn q) (new .control); stands = suffix-entry (suffix-top (new .top)); spawns = refl })
       go (inr x) (inl i) = old i
       go (inr x) (inr i) = true-not-false live (stays-free a q i x)
 

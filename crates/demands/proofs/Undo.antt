@@ -13,7 +13,7 @@ use Rattle.lists.proofs.Tables.{put-same, put-other, put-back}
 use Rattle.lists.proofs.Tests.{true-not-false, none-not-some}
 use Rattle.rules.specs.State.{Message, letter, Kind, send, spawn, asSend, asRec, asSpawn, Entry, State, historyOf, historyAt, inPool}
 use Rattle.rules.specs.Flight.{sends, sent, taken, leftOr, left}
-use Rattle.rules.specs.Commands.{Command, deliver, back, undeliver, Deed, makes, undoes, delivers, undelivers, Beside, nothing, Move, turn, post, setProcess, setQueue, setBeside, apply, entry}
+use Rattle.rules.specs.Commands.{Command, deliver, back, undeliver, Deed, makes, undoes, delivers, undelivers, Beside, nothing, Move, turn, post, setProcess, setQueue, setBeside, apply, entryWith}
 use Rattle.rules.specs.Rules.{process, message, InFlight, commandOf}
 use Rattle.rules.specs.Independent.{Apart, actor, mailbox, actsAt, ifRec, receiver, spawnsInto, unspawns, Unsends, Crossed, IndependentDeeds}
 use Rattle.rules.specs.Sound.{SentTo, Sound}
@@ -52,7 +52,7 @@ unspawned-empty {s} x (undo-spawn _ j _) i = λ z. omega (arith, ap length j, ap
 
 -- a rec that can be undone left the queue as it is
 undone-left : {s : State} {p : ℕ} (x : ℕ) {kind : Kind} {beside : Beside} {before control : List ℕ} {h : List Entry} → Undoes s p (sends h) kind beside
-    → s .processes p ≡ some (process control (entry kind before ∷ h)) → length (left (historyAt s x)) < length (s .queues x) → Apart (ifRec p (asRec kind)) (some x)
+    → s .processes p ≡ some (process control (entryWith kind before ∷ h)) → length (left (historyAt s x)) < length (s .queues x) → Apart (ifRec p (asRec kind)) (some x)
 unfolding Apart ifRec asRec left leftOr historyAt historyOf
 undone-left x (undo-alone a) i g = rw (alone-rec a) tt
 undone-left x (undo-send _) i g = tt
@@ -65,7 +65,7 @@ unfolding Apart
 apart-none none = tt
 apart-none (some x) = tt
 
-undo-undeliver : {s : State} {p : ℕ} {kind : Kind} {beside : Beside} {before control : List ℕ} {h : List Entry} (t : ℕ) → s .processes p ≡ some (process control (entry kind before ∷ h))
+undo-undeliver : {s : State} {p : ℕ} {kind : Kind} {beside : Beside} {before control : List ℕ} {h : List Entry} (t : ℕ) → s .processes p ≡ some (process control (entryWith kind before ∷ h))
     → Undoes s p (sends h) kind beside → length (left (historyAt s t)) < length (s .queues t) → IndependentDeeds (undoes p (sends h) kind) (undelivers t)
 unfolding Apart actor mailbox actsAt receiver spawnsInto unspawns Crossed Unsends
 undo-undeliver t i un g = record {
@@ -139,11 +139,11 @@ put-back-two p q a b c d f i j = fun-ext λ x. go x (ℕ-discrete p x) (ℕ-disc
 module _ {s : State} (sound : Sound s) where
   -- a message just sent is in flight
   flight-new : {p t : ℕ} {v control next : List ℕ} {h : List Entry} → s .processes p ≡ some (process control h) → inPool s t ≡ true
-      → Does s (makes p (send t v)) (turn p (process next (entry (send t v) control ∷ h)) nothing)
-      → InFlight (apply (turn p (process next (entry (send t v) control ∷ h)) nothing) s) p (sends h) t v
+      → Does s (makes p (send t v)) (turn p (process next (entryWith (send t v) control ∷ h)) nothing)
+      → InFlight (apply (turn p (process next (entryWith (send t v) control ∷ h)) nothing) s) p (sends h) t v
   unfolding apply setBeside setProcess historyAt historyOf sent asSend unspawns Apart
   flight-new {p} {t} {v} {control} {next} {h} i live a =
-      flight-of (apply (turn p (process next (entry (send t v) control ∷ h)) nothing) s) p (sends h) t
+      flight-of (apply (turn p (process next (entryWith (send t v) control ∷ h)) nothing) s) p (sends h) t
       (ap (λ o. sent (historyOf o) (sends h)) (put-same p _ (s .processes) p refl) ∙ letter-own (letter t v) (sends h) (sent h (sends h))) (stays-live t a live tt) (λ x. old (came-was a x))
     where
       old : Came s p (sends h) t ⊎ (makes p (send t v) ≡ delivers p (sends h) t) → ⊥

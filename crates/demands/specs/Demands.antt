@@ -19,7 +19,7 @@ use Rattle.rules.specs.Refusals.{Refused}
 use Rattle.rules.specs.Reverse.{reverse, isForward}
 use Rattle.rules.specs.Depends.{entriesOf, Event, event, happened, WithDependents}
 use Rattle.rules.specs.Rollback.{newestCheck, Undos, Rollback, rolledNumber, rolledCount, rolledState, rollback}
-use Rattle.demands.specs.CountIsSize.{HasSize}
+use Rattle.demands.specs.Size.{HasSize}
 
 -- a state reached from a load: accepted commands lead there
 pub record Reachable (s : State) : Type 0 where

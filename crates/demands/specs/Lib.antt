@@ -4,5 +4,6 @@ pub mod Consequences
 pub mod RollbackDemands
 pub mod Limits
 pub mod Least
+pub mod Size
 pub mod CountIsSize
 pub mod SpawnFits

@@ -12,7 +12,7 @@ use Rattle.lists.proofs.Tables.{put-same, put-other}
 use Rattle.rules.specs.State.{Sizes, Message, Kind, rec, spawn, asRec, Entry, Process, State, historyAt, inPool}
 use Rattle.rules.specs.Depends.{queueBefore}
 use Rattle.rules.specs.Load.{newProcess}
-use Rattle.rules.specs.Commands.{nothing, ownQueue, turn, entry, setProcess, setBeside, apply}
+use Rattle.rules.specs.Commands.{nothing, ownQueue, turn, entryWith, setProcess, setBeside, apply}
 use Rattle.store.specs.Image.{IsImage}
 use Rattle.store.specs.Layout.{blocksFrom, slotHead, slotSize, blockSize, kindRec, kindSpawn, kindLive, kindNumber, numberIn, nameWord, Slot, freeSlot, slotWords, presentSlot, placeSlots, slotsAt, block, image}
 use Rattle.store.proofs.Lengths.{length-slot}
@@ -69,7 +69,7 @@ module _ (s : State) (rest l : List ℕ) (e : l ≡ image s ++ rest) (p : ℕ) (
   unfolding apply setBeside setProcess
   between-lives x = put-same p (some (standing control (x ∷ h))) (s .processes) p refl
 
-  copied-image : (what : Kind) (kind number : ℕ) → kindNumber what ≡ kind → numberIn what ≡ number → asRec what ≡ none → copied from to (slotHead + words) kind number 0 l ≡ image (between (entry what control)) ++ rest
+  copied-image : (what : Kind) (kind number : ℕ) → kindNumber what ≡ kind → numberIn what ≡ number → asRec what ≡ none → copied from to (slotHead + words) kind number 0 l ≡ image (between (entryWith what control)) ++ rest
   unfolding copied queueBefore
   copied-image what kind number ek en er =
       let k = slotHead + words in
@@ -79,15 +79,15 @@ module _ (s : State) (rest l : List ℕ) (e : l ≡ image s ++ rest) (p : ℕ) (
       ap (λ (v : List ℕ). putMid to k l (headed kind number 0 v)) (present-front s p (standing control h) lives rest l e from size hp a c k fits)
       ∙ front-put l y to size k (omega arith) (free-inside s rest l e p control h lives to size hp few b c)
       ∙ ap (λ (v : List ℕ). putMid to size l (putMid 0 k v y)) (free-there s rest l e p control h lives to size hp few b c)
-      ∙ made-image s rest l e p control h lives to size hp few b c (entry what control) (putMid 0 k (slotWords (s .sizes) freeSlot) y)
+      ∙ made-image s rest l e p control h lives to size hp few b c (entryWith what control) (putMid 0 k (slotWords (s .sizes) freeSlot) y)
       (front-slot (s .sizes) freeSlot present words kind number 0 w refl
       ∙ (λ i. slotWords (s .sizes) (record { kind = sym ek i; number = sym en i; control = control; names = map nameWord (queueBefore (sym er i)) })))
 
   pub grown-image : (what : Kind) (kind number «end» : ℕ) (next : List ℕ) → kindNumber what ≡ kind → numberIn what ≡ number → asRec what ≡ none → «end» - from ≡ size
-      → grownWords from «end» to words kind number next l ≡ image (apply (turn p (standing next (entry what control ∷ h)) nothing) s) ++ rest
+      → grownWords from «end» to words kind number next l ≡ image (apply (turn p (standing next (entryWith what control ∷ h)) nothing) s) ++ rest
   unfolding grownWords apply setBeside setProcess placeSlots
   grown-image what kind number «end» next ek en er ez =
-      let x = entry what control in
+      let x = entryWith what control in
       let l₁ = copied from to (slotHead + words) kind number 0 l in
       let after = standing next (x ∷ h) in
       ap (λ (k : ℕ). within from k (controlled words next) l₁) ez
@@ -100,7 +100,7 @@ module _ (s : State) (rest l : List ℕ) (e : l ≡ image s ++ rest) (p : ℕ) (
 
   module _ (older : List Message) (message : Message) (newer : List Message) (place «end» : ℕ) (whole : queue ≡ older ++ (message ∷ newer)) (at : length older ≡ place) (ez : «end» - from ≡ size) where
     abbrev taken : Entry
-    taken = entry (rec older message newer) control
+    taken = entryWith (rec older message newer) control
 
     pub kept-image : keptWords from «end» to place l ≡ image (between taken) ++ rest
     unfolding keptWords copied kindNumber numberIn asRec queueBefore
@@ -190,7 +190,7 @@ module _ (l : List ℕ) (p count : ℕ) (next : List ℕ) (r r′ : Span) (f : O
           let one : place < length queue = at-image _ i can-take in
           let q = parted queue place one in
           let there = standing-there s p (can .lives) in
-          let z = presentSlot (standing (controlAt s p) (entry (rec (q .older) (q .message) (q .newer)) (controlAt s p) ∷ historyAt s p)) queue in
+          let z = presentSlot (standing (controlAt s p) (entryWith (rec (q .older) (q .message) (q .newer)) (controlAt s p) ∷ historyAt s p)) queue in
           let l₁ = keptWords (r .from) (r .«end») (r′ .from) place l in
           let w = midOf (r .from) (r .«end» - r .from) l₁ in
           let lent : w ≡ slotWords (s .sizes) z =

@@ -8,7 +8,7 @@ use lib.ListN.{length, getD}
 use borrow.Rule.Slice.PartMut.{midOf}
 use Rattle.rules.specs.State.{Message, Kind, rec, spawn, asRec, Process, State, historyAt, inPool}
 use Rattle.rules.specs.Load.{newProcess}
-use Rattle.rules.specs.Commands.{nothing, ownQueue, other, turn, entry, apply}
+use Rattle.rules.specs.Commands.{nothing, ownQueue, other, turn, entryWith, apply}
 use Rattle.store.specs.Layout.{kindRec, slotHead, kindNumber, numberIn}
 use Rattle.reading.specs.Reads.{controlAt}
 use Rattle.writing.specs.Slots.{controlled, without, within, copied, ControlRoom, NamesRoom, TwoSlots}
@@ -48,7 +48,7 @@ pub record TakeRoom (from end to words place : ℕ) (next l : List ℕ) : Type 0
 
 -- p with one entry more and the next control
 unfoldable pub grown : State → ℕ → Kind → List ℕ → Process
-grown s p kind next = record { control = next; history = entry kind (controlAt s p) ∷ historyAt s p }
+grown s p kind next = record { control = next; history = entryWith kind (controlAt s p) ∷ historyAt s p }
 
 -- an entry that is neither a rec nor a spawn
 pub record Enters (p kind number : ℕ) (next : List ℕ) (s s′ : State) : Type 0 where

@@ -5,7 +5,8 @@ use mathlib.Core.List.{List, [], _∷_, _++_, append-assoc}
 use native.Mathlib.Omega.{arith}
 use Rattle.rules.specs.Bench.{bench}
 use Rattle.calls.proofs.ListingRoom.{listing-room}
-use Rattle.lines.specs.Conversation.{Conversation, silent, answered, Listed, Dialogue, ProgramOfCalls}
+use Rattle.lines.specs.Listed.{Listed}
+use Rattle.lines.specs.Conversation.{Conversation, silent, answered, Dialogue, ProgramOfCalls}
 use Rattle.replies.proofs.ReplyRoom.{text-taken}
 use Rattle.lines.proofs.PrintsLaws.{Prints, line-prints, listing-prints, load-prints}
 

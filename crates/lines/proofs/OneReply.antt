@@ -9,7 +9,8 @@ use Rattle.calls.specs.declared.answers.Answer.{Answer}
 use Rattle.calls.proofs.OneAnswer.{answers-determined}
 use Rattle.replies.specs.Replied.{replyText, Replied}
 use Rattle.lines.specs.Performed.{Performed, no-line, one-line, Says}
-use Rattle.lines.specs.Input.{Hears, takes, refuses, Ends, InputDetermined}
+use Rattle.lines.specs.Input.{Hears, takes, refuses, Ends}
+use Rattle.lines.specs.InputDetermined.{InputDetermined}
 use Rattle.lines.specs.declared.input.Block.{Block}
 use Rattle.lines.specs.declared.input.Block.the-variants.{Taken}
 

@@ -14,10 +14,8 @@ use Rattle.store.specs.Layout.{needed, image}
 use Rattle.store.specs.Image.{IsImage}
 use Rattle.store.specs.Loading.{Outcome}
 use Rattle.calls.specs.Calls.{LoadCall}
-use Rattle.calls.specs.Numbers.{valueOf, Lists}
-use Rattle.calls.specs.ListingRoom.{listingRoom}
-use Rattle.calls.specs.declared.answers.Answer.{Answer}
 use Rattle.replies.specs.Replied.{replyRoom, Replied}
+use Rattle.lines.specs.Listed.{Listed}
 
 -- a line answered in an output that has room for any reply: what stands before the reply's end is printed
 pub record Answered (line entry exit said : List ℕ) : Type 0 where
@@ -33,15 +31,6 @@ pub data Conversation : (entry : List ℕ) (lines : List (List ℕ)) (exit print
   silent : {store : List ℕ} → Conversation store [] store []
   answered : {line entry mid exit said printed : List ℕ} {lines : List (List ℕ)} → Answered line entry mid said → Conversation mid lines exit printed
       → Conversation entry (line ∷ lines) exit (said ++ printed)
-
--- the listing in an output that has room for any listing; a refusal has the length 0, and nothing is printed
-pub record Listed (store printed : List ℕ) : Type 0 where
-  pub old : List ℕ
-  pub new : List ℕ
-  pub answer : Answer
-  pub call : Lists store old new answer
-  pub room : listingRoom ≤ length old
-  pub printed-is : printed ≡ take (valueOf answer) new
 
 -- a conversation, and then the listing
 pub record Dialogue (entry : List ℕ) (lines : List (List ℕ)) (printed : List ℕ) : Type 0 where

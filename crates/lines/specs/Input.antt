@@ -1,5 +1,5 @@
--- What the input's bytes do, block by block, and what the program bench prints for all of them. `input-determined` and `program-of-blocks` of
--- proofs/ show what is claimed.
+-- What the input's bytes do, block by block, and what the program bench prints for all of them. `program-of-blocks` of proofs/ shows what is
+-- claimed.
 use Prim.Native.Nat.{ℕ, _+_, _*_, _≤_, _<_, min}
 use mathlib.Core.Path.{_≡_}
 use mathlib.Core.Bool.{true, false}
@@ -16,7 +16,7 @@ use Rattle.store.specs.Loading.{Outcome}
 use Rattle.calls.specs.Calls.{LoadCall}
 use Rattle.replies.specs.Replied.{replyRoom}
 use Rattle.lines.specs.Performed.{Says}
-use Rattle.lines.specs.Conversation.{Listed}
+use Rattle.lines.specs.Listed.{Listed}
 use Rattle.lines.specs.declared.input.Block.{Block}
 use Rattle.lines.specs.declared.input.Block.the-variants.{Taken, Refused}
 
@@ -66,14 +66,6 @@ pub data Hears (entry line : List ℕ) (count : ℕ) (input old : List ℕ) : (e
 -- the end of the input, where a line has begun: it is a line though it has no LF, if it is not empty
 unfoldable pub Ends : (entry begun old exit new : List ℕ) (end : ℕ) → Type 0
 Ends entry begun old exit new end = Says entry (withoutEmptyLast (begun ∷ [])) 0 old exit new end
-
--- for all that is lent, two outcomes that a contract allows are equal
-pub record InputDetermined : Type 0 where
-  pub keep : (line : List ℕ) (count b : ℕ) (after after′ : List ℕ) (kept kept′ : ℕ) → Kept line count b after kept → Kept line count b after′ kept′ → (after ≡ after′) × (kept ≡ kept′)
-  pub block : (entry line : List ℕ) (count : ℕ) (input old exit exit′ after after′ new new′ : List ℕ) (r r′ : Block)
-      → Hears entry line count input old exit after new r → Hears entry line count input old exit′ after′ new′ r′ → (exit ≡ exit′) × (after ≡ after′) × (new ≡ new′) × (r ≡ r′)
-  pub last : (entry begun old exit exit′ new new′ : List ℕ) (end end′ : ℕ) → Ends entry begun old exit new end → Ends entry begun old exit′ new′ end′
-      → (exit ≡ exit′) × (new ≡ new′) × (end ≡ end′)
 
 -- blocks of input, each taken, with an output that has room: what stands before the output's end is printed
 pub data Blocks : (entry line : List ℕ) (count : ℕ) (input exit after : List ℕ) (kept : ℕ) (printed : List ℕ) → Type 0 where

@@ -11,6 +11,7 @@ use store::layout::SEND;
 use store::layout::SEQ;
 use store::layout::SPAWN;
 use text::listing::Newest;
+use text::listing::Shown;
 use text::listing::write_process;
 use text::writing::past;
 ghost use mathlib.Core.Path.{_≡_};
@@ -83,17 +84,15 @@ pub fn write_place(store: &[u32], out: &mut [u8], at: usize, p: usize) -> usize
     if !in_pool(store, p as u32) {
         return past(at, 0);
     }
+    let place = p as u32;
     let entries = entry_count(store, p) as u32;
     let kind = newest(store, p);
-    write_process(
-        out,
-        at,
-        p as u32,
-        entries,
-        kind,
-        queue(store, p),
-        control(store, p),
-    )
+    let shown = Shown {
+        place: place,
+        entries: entries,
+        newest: kind,
+    };
+    write_process(out, at, shown, queue(store, p), control(store, p))
 }
 
 // The lines of all places.

@@ -7,12 +7,9 @@ use mathlib.Core.List.{List, [], _∷_, _++_, map}
 use native.Mathlib.Decide.{ℕ-discrete}
 use native.Mathlib.Omega.{arith}
 use Rattle.lists.specs.Lists.{upTo, any, keep, joined}
+use Rattle.lists.specs.Members.{In, first, later}
 use Rattle.lists.proofs.Tests.{true-not-false, true-or-false, or-true, or-false-left, or-false-right}
 use Rattle.lists.proofs.Lists.{keep-true, keep-false}
-
-pub data In {A : Type 0} (x : A) : List A → Type 0 where
-  first : {xs : List A} → In x (x ∷ xs)
-  later : {y : A} {xs : List A} → In x xs → In x (y ∷ xs)
 
 module _ {A : Type 0} where
   pub in-left : {x : A} {xs : List A} (ys : List A) → In x xs → In x (xs ++ ys)

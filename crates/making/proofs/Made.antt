@@ -19,7 +19,7 @@ use Rattle.step.specs.declared.step.Next.the-variants.{Nothing, TooLarge, Row}
 use Rattle.rules.specs.Answers.{tooLarge, historyFull}
 use Rattle.rules.specs.State.{Kind, rec, spawn, State, historyAt}
 use Rattle.rules.specs.Load.{newProcess}
-use Rattle.rules.specs.Commands.{Beside, nothing, ownQueue, other, makes, turn, refuse, accept, need, apply, entry, making}
+use Rattle.rules.specs.Commands.{Beside, nothing, ownQueue, other, makes, turn, refuse, accept, need, apply, making}
 use Rattle.store.specs.Layout.{image}
 use Rattle.calls.specs.Numbers.{numberOf, valueOf}
 use Rattle.calls.specs.declared.answers.Answer.the-variants.{Done, TooLarge as LargeAnswer, HistoryFull}

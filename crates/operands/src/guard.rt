@@ -60,20 +60,18 @@ pub fn guard(c: &[u32], at: usize, v: &[u32], env: &[u32]) -> Given
         };
     }
     let first = guard(c, at + 1, v, env);
-    let middle = first.end;
-    if middle <= at {
+    if first.end <= at {
         return Given {
             what: Operand::Stuck,
             end: at,
         };
     }
-    let second = guard(c, middle, v, env);
+    let second = guard(c, first.end, v, env);
     let x = first.what;
     let y = second.what;
-    let end = second.end;
     Given {
         what: operate(c, v, k(w), x, y),
-        end: end,
+        end: second.end,
     }
 }
 

@@ -6,10 +6,10 @@ use mathlib.Core.Option.{Option, none, some}
 use mathlib.Core.List.{List, [], _∷_, _++_}
 use native.Mathlib.Omega.{arith}
 use native.Mathlib.Decide.{decLt}
-use lib.Dec.{ltb}
+use lib.Dec.{eqb, ltb}
 use lib.ListN.{length, getD, set}
 use Rattle.lists.specs.Lists.{butLast}
-use Rattle.lists.proofs.Tests.{none-not-some, some-injective}
+use Rattle.lists.proofs.Tests.{none-not-some, some-injective, eqb-true, eqb-false}
 use Rattle.rules.specs.Answers.{held}
 use Rattle.rules.specs.State.{Message, Process, State}
 use Rattle.rules.specs.Flight.{left}
@@ -68,23 +68,35 @@ module _ (s : State) (q : ℕ) {s′ : State} where
   unfolding runState run
   undelivered e = undelivered-by (s .processes q) (s .queues q) e
 
-module _ (store : List ℕ) (x : ℕ) (can : OfState store (CanUndoLine x)) where
-  pub even-can : x % 2 ≡ 0 → OfState store (CanUndo (x / 2))
-  unfolding OfState undoOf
-  even-can h s rest holds = let c = can s rest holds in record { after = c .after; accepted = subst (λ y. runState (undoOf y) s ≡ some (c .after)) (even-line (c .line) x (c .numbered) h) (c .accepted) }
+-- the line of a number: by whether it is even, and by its half
+module _ (x : ℕ) (even : Bool) (test : even ≡ eqb (x % 2) 0) where
+  is-even : even ≡ true → x % 2 ≡ 0
+  is-even t = eqb-true (x % 2) 0 (sym test ∙ t)
 
-  pub odd-can : ¬ (x % 2 ≡ 0) → OfState store (CanTake (x / 2) 0)
-  unfolding OfState undoOf
-  odd-can h s rest holds = let c = can s rest holds in undelivered s (x / 2) (subst (λ y. runState (undoOf y) s ≡ some (c .after)) (odd-line (c .line) x (c .numbered) h) (c .accepted)) .0
+  is-odd : even ≡ false → ¬ (x % 2 ≡ 0)
+  is-odd f = eqb-false (x % 2) 0 (sym test ∙ f)
 
-module _ (store exit : List ℕ) (x : ℕ) where
-  pub even-leads : x % 2 ≡ 0 → Leads store exit (Undoes (x / 2)) → Leads store exit (UndoesLine x)
-  unfolding Leads Undoes UndoesLine undoOf
-  even-leads h leads s s′ rest holds f = leads s s′ rest holds (f (entriesOf (x / 2)) (even-number x h))
+  module _ (store : List ℕ) (can : OfState store (CanUndoLine x)) (p : ℕ) (half : p ≡ x / 2) where
+    pub even-can : even ≡ true → OfState store (CanUndo p)
+    unfolding OfState undoOf
+    even-can t s rest holds =
+        let c = can s rest holds in
+        record { after = c .after; accepted = subst (λ y. runState (undoOf y) s ≡ some (c .after)) (even-line (c .line) x (c .numbered) (is-even t) ∙ ap entriesOf (sym half)) (c .accepted) }
 
-  pub odd-leads : ¬ (x % 2 ≡ 0) → Leads store exit (Unposts (x / 2)) → Leads store exit (UndoesLine x)
-  unfolding Leads Unposts UndoesLine undoOf
-  odd-leads h leads s s′ rest holds f = leads s s′ rest holds (undelivered s (x / 2) (f (deliveriesTo (x / 2)) (odd-number x h)) .1)
+    pub odd-can : even ≡ false → OfState store (CanTake p 0)
+    unfolding OfState undoOf
+    odd-can f s rest holds =
+        let c = can s rest holds in
+        undelivered s p (subst (λ y. runState (undoOf y) s ≡ some (c .after)) (odd-line (c .line) x (c .numbered) (is-odd f) ∙ ap deliveriesTo (sym half)) (c .accepted)) .0
+
+  module _ (store exit : List ℕ) (p : ℕ) (half : p ≡ x / 2) where
+    pub even-leads : even ≡ true → Leads store exit (Undoes p) → Leads store exit (UndoesLine x)
+    unfolding Leads Undoes UndoesLine undoOf
+    even-leads t leads s s′ rest holds f = leads s s′ rest holds (f (entriesOf p) (ap (λ q. lineNumber (entriesOf q)) half ∙ even-number x (is-even t)))
+
+    pub odd-leads : even ≡ false → Leads store exit (Unposts p) → Leads store exit (UndoesLine x)
+    unfolding Leads Unposts UndoesLine undoOf
+    odd-leads g leads s s′ rest holds f = leads s s′ rest holds (undelivered s p (f (deliveriesTo p) (ap (λ q. lineNumber (deliveriesTo q)) half ∙ odd-number x (is-odd g))) .1)
 
 -- ---- where the loop stands
 pub record Standing {s : State} (sound : Sound s) (x : Series) (i : ℕ) (happens : happened s (event x i) ≡ true) (rest store lv : List ℕ) : Type 0 where

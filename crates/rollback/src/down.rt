@@ -4,6 +4,8 @@ use cuts::bounds::INDEX_ROOM;
 use cuts::bounds::LINES;
 use cuts::bounds::NO_LINK;
 use cuts::chains::index_links;
+use cuts::events::has_entries;
+use cuts::events::place_of;
 use cuts::found::Found;
 use cuts::search::Descent;
 use cuts::search::next_line;
@@ -26,10 +28,10 @@ fn undo_line(store: &mut [u32], x: usize)
     requires { ⌜ IsImage (now store) × OfState (now store) (CanUndoLine x) ⌝ }
     ensures { λ _. ⌜ Leads (now (store .entry)) (now (store .exit)) (UndoesLine x) ⌝ }
 {
-    if x % 2 == 0 {
-        undo(store, x / 2);
+    if has_entries(x) {
+        undo(store, place_of(x));
     } else {
-        unpost(store, x / 2);
+        unpost(store, place_of(x));
     }
 }
 

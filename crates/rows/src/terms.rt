@@ -7,6 +7,12 @@ ghost use Prim.Native.Nat.{_+_};
 ghost use lib.ListN.{drop};
 ghost use Rattle.term.specs.Rows.{passed};
 
+// So many terms that are still to come, the first of them at a position.
+pub struct Ahead {
+    pub at: usize,
+    pub owed: usize,
+}
+
 // Where the terms that stand at a position end, so many of them; the row's end where words run out.
 pub fn skip(row: &[u32], at: usize, owed: usize) -> usize
     ensures { λ r. ⌜ r ≡ at + passed (drop at (now (row .entry))) owed ⌝ }

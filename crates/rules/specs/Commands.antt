@@ -81,8 +81,8 @@ unfoldable pub pick : (List ℕ → Option (List ℕ)) → List Message → Opti
 pick takes [] = none
 pick takes (m ∷ queue) = orLater m queue (takes (m .value)) (pick takes queue)
 
-abbrev pub entry : Kind → List ℕ → Entry
-entry kind before = record { kind = kind; before = before }
+abbrev pub entryWith : Kind → List ℕ → Entry
+entryWith kind before = record { kind = kind; before = before }
 
 module _ (s : State) (p : ℕ) (process : Process) where
   -- p makes an entry: 9 where the next control exceeds W, 10 where H entries stand
@@ -90,7 +90,7 @@ module _ (s : State) (p : ℕ) (process : Process) where
   making kind next beside =
       need (leb (length next) (s .sizes .words)) tooLarge
       (need (ltb (length (process .history)) (s .sizes .entries)) historyFull
-      (accept (makes p kind) (turn p (record { control = next; history = entry kind (process .control) ∷ process .history }) beside)))
+      (accept (makes p kind) (turn p (record { control = next; history = entryWith kind (process .control) ∷ process .history }) beside)))
 
   -- 5 where nothing matches
   unfoldable pub receiving : Option Picked → Plan

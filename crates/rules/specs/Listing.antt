@@ -47,3 +47,7 @@ listing s =
     line "processes=" (decimal (length (keep (inPool s) (upTo (s .sizes .places)))))
     ++ joined (map (λ p. processLines p (s .queues p) (s .processes p)) (upTo (s .sizes .places)))
     ++ line "flight=" (spaced (map flightText (flight s)))
+
+-- a length that no listing exceeds, whatever the sizes
+abbrev pub listingRoom : ℕ
+listingRoom = 65536

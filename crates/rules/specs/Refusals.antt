@@ -12,7 +12,7 @@ use Rattle.machine.specs.Work
 use Rattle.rules.specs.Answers.{noProcess, finished, waiting, stuck, wrongCommand, placeTaken, tooLarge, historyFull, noMessage, nothingToUndo, held}
 use Rattle.rules.specs.State.{Kind, Entry, State, historyAt, inPool}
 use Rattle.rules.specs.Flight.{left}
-use Rattle.rules.specs.Commands.{Command, step, spawnInto, deliver, back, undeliver, entry}
+use Rattle.rules.specs.Commands.{Command, step, spawnInto, deliver, back, undeliver, entryWith}
 use Rattle.rules.specs.Receives.{NoneTaken}
 use Rattle.rules.specs.Rules.{process, InFlight, About, Makes, Undoes, makingOf}
 
@@ -65,6 +65,6 @@ pub data Refused (s : State) : Command → ℕ → Type 0 where
   no-entry : {p : ℕ} {control : List ℕ} → s .processes p ≡ some (process control []) → Refused s (back p) nothingToUndo
   no-message-queued : {p : ℕ} → inPool s p ≡ true → s .queues p ≡ [] → Refused s (undeliver p) nothingToUndo
   -- 13, "undo condition fails"
-  entry-held : {p : ℕ} {control before : List ℕ} {older : List Entry} {kind : Kind} → s .processes p ≡ some (process control (entry kind before ∷ older))
+  entry-held : {p : ℕ} {control before : List ℕ} {older : List Entry} {kind : Kind} → s .processes p ≡ some (process control (entryWith kind before ∷ older))
       → ((after : State) → ¬ Undoes s p before older kind after) → Refused s (back p) held
   message-held : {p : ℕ} → inPool s p ≡ true → s .queues p ≢ [] → length (s .queues p) ≤ length (left (historyAt s p)) → Refused s (undeliver p) held

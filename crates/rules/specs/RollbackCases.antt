@@ -7,7 +7,7 @@ use mathlib.Core.List.{List, [], _∷_, _++_}
 use Rattle.lists.specs.Tables.{put}
 use Rattle.rules.specs.Answers.{held}
 use Rattle.rules.specs.State.{Message, send, rec, spawn, check, Entry, Process, State}
-use Rattle.rules.specs.Commands.{entry}
+use Rattle.rules.specs.Commands.{entryWith}
 use Rattle.rules.specs.Text.{bytes}
 use Rattle.rules.specs.Rollback.{refused, rollback}
 use Rattle.rules.specs.Bench.{bench, benchModule}
@@ -71,7 +71,7 @@ abbrev pub receivedFirst : State
 receivedFirst = record {
   module′ = benchModule;
   sizes = record { places = 1; entries = 16; words = 64 };
-  processes = at0 (entry (send 0 someAtom) (sendTo 0x04000000) ∷ entry (rec [] message0 []) someAtom ∷ entry (check 7) someAtom ∷ []);
+  processes = at0 (entryWith (send 0 someAtom) (sendTo 0x04000000) ∷ entryWith (rec [] message0 []) someAtom ∷ entryWith (check 7) someAtom ∷ []);
   queues = λ p. [];
 }
 
@@ -80,7 +80,7 @@ abbrev pub sentFirst : State
 sentFirst = record {
   module′ = benchModule;
   sizes = record { places = 2; entries = 16; words = 64 };
-  processes = put 1 (some (record { control = someAtom; history = [] })) (at0 (entry (spawn 1) someAtom ∷ entry (check 7) someAtom ∷ entry (send 1 someAtom) (sendTo 0x04000001) ∷ []));
+  processes = put 1 (some (record { control = someAtom; history = [] })) (at0 (entryWith (spawn 1) someAtom ∷ entryWith (check 7) someAtom ∷ entryWith (send 1 someAtom) (sendTo 0x04000001) ∷ []));
   queues = λ p. [];
 }
 

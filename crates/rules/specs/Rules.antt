@@ -10,7 +10,7 @@ use Rattle.machine.specs.Work.{Work, toSeq, toSend, toReceive, toSpawn, toSelf,
 use Rattle.rules.specs.State.{Message, letter, Kind, seq, send, rec, spawn, self, check, Entry, Process, State, historyAt, inPool}
 use Rattle.rules.specs.Flight.{sends, sent, left, flies}
 use Rattle.rules.specs.Load.{newProcess}
-use Rattle.rules.specs.Commands.{Command, step, spawnInto, deliver, back, undeliver, Deed, makes, undoes, delivers, undelivers, setProcess, setQueue, entry}
+use Rattle.rules.specs.Commands.{Command, step, spawnInto, deliver, back, undeliver, Deed, makes, undoes, delivers, undelivers, setProcess, setQueue, entryWith}
 use Rattle.rules.specs.Receives.{TakesOldest}
 
 abbrev pub process : List ℕ → List Entry → Process
@@ -36,18 +36,18 @@ with s p control history = setProcess p (some (process control history)) s
 -- p makes an entry of a kind and has the next control, and the state after it (figure 10)
 pub data Makes (s : State) (p : ℕ) (control : List ℕ) (history : List Entry) : Kind → (next : List ℕ) → (after : State) → Type 0 where
   by-seq : {next : List ℕ} → About s p control history (toSeq next)
-      → Makes s p control history seq next (with s p next (entry seq control ∷ history))
+      → Makes s p control history seq next (with s p next (entryWith seq control ∷ history))
   by-check : {number : ℕ} {next : List ℕ} → About s p control history (toCheck number next)
-      → Makes s p control history (check number) next (with s p next (entry (check number) control ∷ history))
+      → Makes s p control history (check number) next (with s p next (entryWith (check number) control ∷ history))
   by-self : {next : ℕ → List ℕ} → About s p control history (toSelf next)
-      → Makes s p control history self (next p) (with s p (next p) (entry self control ∷ history))
+      → Makes s p control history self (next p) (with s p (next p) (entryWith self control ∷ history))
   by-send : {target : ℕ} {value next : List ℕ} → About s p control history (toSend target value next) → inPool s target ≡ true
-      → Makes s p control history (send target value) next (with s p next (entry (send target value) control ∷ history))
+      → Makes s p control history (send target value) next (with s p next (entryWith (send target value) control ∷ history))
   by-receive : {takes : List ℕ → Option (List ℕ)} {m : Message} {ahead behind : List Message} {next : List ℕ}
       → About s p control history (toReceive takes) → TakesOldest takes (s .queues p) ahead m behind next
-      → Makes s p control history (rec ahead m behind) next (setQueue p (ahead ++ behind) (with s p next (entry (rec ahead m behind) control ∷ history)))
+      → Makes s p control history (rec ahead m behind) next (setQueue p (ahead ++ behind) (with s p next (entryWith (rec ahead m behind) control ∷ history)))
   by-spawn : {child : List ℕ} {next : ℕ → List ℕ} {f : ℕ} → About s p control history (toSpawn child next) → f < s .sizes .places → inPool s f ≡ false
-      → Makes s p control history (spawn f) (next f) (setProcess f (some (newProcess child)) (with s p (next f) (entry (spawn f) control ∷ history)))
+      → Makes s p control history (spawn f) (next f) (setProcess f (some (newProcess child)) (with s p (next f) (entryWith (spawn f) control ∷ history)))
 
 -- p's newest entry, with its control before and the older entries, is undone, and the state after that (figure 11)
 pub data Undoes (s : State) (p : ℕ) (before : List ℕ) (older : List Entry) : Kind → (after : State) → Type 0 where
@@ -65,7 +65,7 @@ pub data LeadsTo (s : State) : Deed → (after : State) → Type 0 where
   forward : {p : ℕ} {control next : List ℕ} {history : List Entry} {kind : Kind} {after : State} → Makes s p control history kind next after
       → length history < s .sizes .entries → length next ≤ s .sizes .words → LeadsTo s (makes p kind) after
   backward : {p : ℕ} {control before : List ℕ} {older : List Entry} {kind : Kind} {after : State}
-      → s .processes p ≡ some (process control (entry kind before ∷ older)) → Undoes s p before older kind after → LeadsTo s (undoes p (sends older) kind) after
+      → s .processes p ≡ some (process control (entryWith kind before ∷ older)) → Undoes s p before older kind after → LeadsTo s (undoes p (sends older) kind) after
   -- Sched and its reverse
   sched : {sender k t : ℕ} {value : List ℕ} → InFlight s sender k t value
       → LeadsTo s (delivers sender k t) (setQueue t (s .queues t ++ (message sender k value ∷ [])) s)

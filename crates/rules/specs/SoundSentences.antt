@@ -12,7 +12,7 @@ use Rattle.term.specs.Module.{checkModule}
 use Rattle.rules.specs.State.{Sizes, Message, letter, seq, send, rec, spawn, check, asSend, asCheck, Entry, Process, State, historyAt, entryAt, inPool}
 use Rattle.rules.specs.Flight.{sent, taken}
 use Rattle.rules.specs.Load.{goodSizes}
-use Rattle.rules.specs.Commands.{entry}
+use Rattle.rules.specs.Commands.{entryWith}
 use Rattle.rules.specs.Sound.{SoundControl, AboutToSend, SpawnedBy, distinct, SentTo, Flows, Sound}
 
 -- the clauses, by the names of the fields of `Sound`
@@ -101,13 +101,13 @@ abbrev pub toOne : List ℕ
 toOne = 0x0E020000 ∷ 0x04000001 ∷ 0x02000005 ∷ []
 
 abbrev pub sends : Entry
-sends = entry (send 1 five) toOne
+sends = entryWith (send 1 five) toOne
 
 abbrev pub spawns : Entry
-spawns = entry (spawn 1) five
+spawns = entryWith (spawn 1) five
 
 abbrev pub plain : List ℕ → Entry
-plain before = entry seq before
+plain before = entryWith seq before
 
 abbrev pub message : ℕ → Message
 message k = record { sender = 0; count = k; value = five }
@@ -118,7 +118,7 @@ long = 0x07080000 ∷ 0x03000000 ∷ 0 ∷ 0x03000000 ∷ 0 ∷ 0x03000000 ∷ 0
 
 -- 0 spawned 1, sent it two messages and passed checkpoint 255; 1 took the first, and the second stands in its queue
 abbrev pub good : Example
-good = two (entry (check 255) five ∷ sends ∷ sends ∷ spawns ∷ []) (entry (rec [] (message 0) (message 1 ∷ [])) five ∷ []) (message 1 ∷ [])
+good = two (entryWith (check 255) five ∷ sends ∷ sends ∷ spawns ∷ []) (entryWith (rec [] (message 0) (message 1 ∷ [])) five ∷ []) (message 1 ∷ [])
 
 -- `case <1> of X when {} -> 5 end`
 abbrev pub guarded : Example
@@ -166,29 +166,29 @@ pub record SoundSentences : Type 0 where
   pub no-function : Breaks controls (standing (0x09000001 ∷ []))
   pub wrong-count : Breaks controls (standing (0x09010000 ∷ five))
   -- "check numbers are 0..255": 255 stands in `good`
-  pub check-256 : Breaks check-numbers (alone (entry (check 256) five ∷ []))
+  pub check-256 : Breaks check-numbers (alone (entryWith (check 256) five ∷ []))
   -- "a send entry's target and value are those its control before is about to send"
-  pub other-target : Breaks sends-said (two (entry (send 0 five) toOne ∷ spawns ∷ []) [] [])
-  pub other-value : Breaks sends-said (two (entry (send 1 (0x02000006 ∷ [])) toOne ∷ spawns ∷ []) [] [])
-  pub no-send : Breaks sends-said (two (entry (send 1 five) five ∷ spawns ∷ []) [] [])
+  pub other-target : Breaks sends-said (two (entryWith (send 0 five) toOne ∷ spawns ∷ []) [] [])
+  pub other-value : Breaks sends-said (two (entryWith (send 1 (0x02000006 ∷ [])) toOne ∷ spawns ∷ []) [] [])
+  pub no-send : Breaks sends-said (two (entryWith (send 1 five) five ∷ spawns ∷ []) [] [])
   -- "a rec's message stands in its queue before, and what it left is that queue without it": no entry can break this
   -- "each pool place but 0 is the child of exactly one spawn entry, place 0 of none, children are in the pool"
   pub unborn : Breaks born (two [] [] [])
   pub born-twice : Breaks born-once (two (spawns ∷ spawns ∷ []) [] [])
-  pub place-0-born : Breaks place-0-unborn (alone (entry (spawn 0) five ∷ []))
+  pub place-0-born : Breaks place-0-unborn (alone (entryWith (spawn 0) five ∷ []))
   pub child-gone : Breaks children-in-pool (alone (spawns ∷ []))
   -- "each send entry's target is in the pool"
   pub target-gone : Breaks targets-in-pool (alone (sends ∷ []))
   -- "and its message stands exactly once in flight, the target's queue and the messages the target's recs took, taken together":
   -- none is missing, since what has not come is in flight
   pub twice-queued : Breaks once (two (sends ∷ spawns ∷ []) [] (message 0 ∷ message 0 ∷ []))
-  pub queued-and-taken : Breaks once (two (sends ∷ spawns ∷ []) (entry (rec [] (message 0) []) five ∷ []) (message 0 ∷ []))
-  pub taken-twice : Breaks once (two (sends ∷ spawns ∷ []) (entry (rec [] (message 0) []) five ∷ entry (rec [] (message 0) []) five ∷ []) [])
+  pub queued-and-taken : Breaks once (two (sends ∷ spawns ∷ []) (entryWith (rec [] (message 0) []) five ∷ []) (message 0 ∷ []))
+  pub taken-twice : Breaks once (two (sends ∷ spawns ∷ []) (entryWith (rec [] (message 0) []) five ∷ entryWith (rec [] (message 0) []) five ∷ []) [])
   -- "nothing else is a message": never sent, another value, at another place
   pub never-sent : Breaks nothing-else (two (spawns ∷ []) [] (message 0 ∷ []))
   pub not-that-value : Breaks nothing-else (two (sends ∷ spawns ∷ []) [] (record { sender = 0; count = 0; value = 0x02000006 ∷ [] } ∷ []))
-  pub never-sent-taken : Breaks nothing-else (two (spawns ∷ []) (entry (rec [] (message 0) []) five ∷ []) [])
+  pub never-sent-taken : Breaks nothing-else (two (spawns ∷ []) (entryWith (rec [] (message 0) []) five ∷ []) [])
   pub not-its-target : Breaks nothing-else (with (runs five (sends ∷ spawns ∷ []) (message 0 ∷ []) ∷ runs five [] [] ∷ []))
   -- "the queue left by each rec is a prefix of the queue before the next rec, or of the current one"
-  pub not-in-current : Breaks prefixes (two (sends ∷ sends ∷ spawns ∷ []) (entry (rec [] (message 0) (message 1 ∷ [])) five ∷ []) [])
-  pub not-in-next : Breaks prefixes (two (sends ∷ sends ∷ sends ∷ spawns ∷ []) (entry (rec (message 2 ∷ []) (message 1) []) five ∷ entry (rec [] (message 0) (message 1 ∷ [])) five ∷ []) (message 2 ∷ []))
+  pub not-in-current : Breaks prefixes (two (sends ∷ sends ∷ spawns ∷ []) (entryWith (rec [] (message 0) (message 1 ∷ [])) five ∷ []) [])
+  pub not-in-next : Breaks prefixes (two (sends ∷ sends ∷ sends ∷ spawns ∷ []) (entryWith (rec (message 2 ∷ []) (message 1) []) five ∷ entryWith (rec [] (message 0) (message 1 ∷ [])) five ∷ []) (message 2 ∷ []))

@@ -8,6 +8,7 @@ use crate::step::let_next;
 use crate::step::receive_next;
 use copying::copy::copy_words;
 use copying::copy::put;
+use copying::next::Swap;
 use copying::next::with_copy;
 use copying::next::with_word;
 use copying::place::find;
@@ -108,7 +109,11 @@ pub fn send_next(c: &[u32], out: &mut [u32]) -> Next
     let value = skip(c, at + 1, 1);
     let env = [0; VARIABLES];
     let room = out.len();
-    fitted(with_copy(c, at, c, value, c, &env, out), room)
+    let swap = Swap {
+        at: at,
+        body: value,
+    };
+    fitted(with_copy(c, c, swap, c, &env, out), room)
 }
 
 // The first control of a spawn's child: the spawn's term with the tag of apply.

@@ -3,6 +3,7 @@
 use choosing::clause::Chosen;
 use choosing::clause::choose;
 use copying::matching::matches;
+use copying::next::Swap;
 use copying::next::with_copy;
 use copying::next::with_integer;
 use copying::next::with_word;
@@ -100,7 +101,8 @@ fn clause_next(c: &[u32], at: usize, clause: usize, v: &[u32], va: usize, out: &
     let mut env = [0; VARIABLES];
     let fits = matches(c, clause + 1, v, va, 1, &mut env);
     let body = skip(c, clause + 1, 2);
-    with_copy(c, at, c, body, v, &env, out)
+    let swap = Swap { at: at, body: body };
+    with_copy(c, c, swap, v, &env, out)
 }
 
 pub fn case_next(c: &[u32], at: usize, out: &mut [u32]) -> Next
@@ -131,7 +133,8 @@ pub fn let_next(c: &[u32], at: usize, out: &mut [u32]) -> Next
     env[x] = at as u32 + 2;
     let body = skip(c, at + 1, 1);
     let room = out.len();
-    fitted(with_copy(c, at, c, body, c, &env, out), room)
+    let swap = Swap { at: at, body: body };
+    fitted(with_copy(c, c, swap, c, &env, out), room)
 }
 
 // What the receive at `at` makes of the value `v`.
@@ -186,5 +189,9 @@ pub fn apply_next(program: &[u32], c: &[u32], at: usize, out: &mut [u32]) -> Nex
         return Next::Nothing;
     }
     let room = out.len();
-    fitted(with_copy(c, at, program, start + 1, c, &env, out), room)
+    let swap = Swap {
+        at: at,
+        body: start + 1,
+    };
+    fitted(with_copy(c, program, swap, c, &env, out), room)
 }

@@ -14,7 +14,7 @@ use Rattle.rules.specs.State.{Sizes, Message, Kind, seq, send, rec, spawn, self
 use Rattle.rules.specs.Sound.{SentTo, Sound}
 use Rattle.rules.specs.Depends.{queueBefore}
 use Rattle.store.specs.Layout.{namesRoom, slotCount, nameWord, Slot, freeSlot, slotWords, kindNumber, numberIn, entrySlot, placeSlots, slotsAt, block, head, laid, image}
-use Rattle.store.specs.Image.{IsWord, Worded}
+use Rattle.store.specs.ImageLaws.{IsWord, Worded}
 use Rattle.store.proofs.Lengths.{blockAt}
 use Rattle.store.proofs.Restoring.{Kept, KeptQueue, KeptEntry}
 use Rattle.store.proofs.Histories.{all-entries}

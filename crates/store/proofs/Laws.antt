@@ -3,7 +3,8 @@ use Prim.Native.Nat.{ℕ}
 use mathlib.Core.Path.{_≡_, refl, _∙_, ap}
 use mathlib.Core.List.{List, _++_}
 use Rattle.store.specs.Layout.{image}
-use Rattle.store.specs.Image.{IsImage, ImageLaws}
+use Rattle.store.specs.Image.{IsImage}
+use Rattle.store.specs.ImageLaws.{ImageLaws}
 use Rattle.store.proofs.Lengths.{length-image, needed-most, bench-fits}
 use Rattle.store.proofs.Decoding.{decode, decode-image, one-storable}
 use Rattle.store.proofs.SoundStates.{storable}

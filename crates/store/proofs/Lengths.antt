@@ -14,7 +14,7 @@ use Rattle.term.specs.Module.{longestModule}
 use Rattle.rules.specs.State.{Sizes, State}
 use Rattle.rules.specs.Bench.{benchSizes, benchStore}
 use Rattle.store.specs.Layout.{blocksFrom, namesRoom, slotSize, slotCount, blockSize, needed, Slot, freeSlot, slotWords, slotsAt, block, head, laid, image}
-use Rattle.store.specs.Image.{mostNeeded}
+use Rattle.store.specs.ImageLaws.{mostNeeded}
 
 pub length-slot : (sizes : Sizes) (x : Slot) → length (slotWords sizes x) ≡ slotSize sizes
 unfolding slotWords

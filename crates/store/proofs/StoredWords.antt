@@ -14,7 +14,7 @@ use Rattle.lists.proofs.All.{all-both, all-head, all-take, all-drop, all-unjoin
 use Rattle.lists.proofs.Fill.{all-unfill}
 use Rattle.rules.specs.State.{Sizes, Process, State, historyOf, historyAt}
 use Rattle.store.specs.Layout.{headWords, blocksFrom, slotHead, slotCount, blockSize, Slot, freeSlot, slotWords, entrySlot, presentSlot, placeSlots, slotsAt, block, image}
-use Rattle.store.specs.Image.{IsWord, Worded}
+use Rattle.store.specs.ImageLaws.{IsWord, Worded}
 use Rattle.store.proofs.Reading.{FitsSlot}
 use Rattle.store.proofs.Decoding.{Storable, slots-few, slots-fit}
 use Rattle.store.proofs.Histories.{all-entry}

@@ -114,20 +114,20 @@ pub fn write_control(out: &mut [u8], at: usize, words: &[u32]) -> usize
     write_line_feed(out, end)
 }
 
+// A process's place, how many entries it has, and the newest of them.
+pub struct Shown {
+    pub place: u32,
+    pub entries: u32,
+    pub newest: Newest,
+}
+
 // The five lines of a process.
-pub fn write_process(
-    out: &mut [u8],
-    at: usize,
-    p: u32,
-    entries: u32,
-    newest: Newest,
-    names: &[u32],
-    words: &[u32],
-) -> usize
-    ensures { λ r. ⌜ Wrote (processText p entries newest (now (names .entry)) (now (words .entry))) at (now (out .entry)) (now (out .exit)) r ⌝ }
+pub fn write_process(out: &mut [u8], at: usize, shown: Shown, names: &[u32], words: &[u32]) -> usize
+    ensures { λ r. ⌜ Wrote (processText (shown .place) (shown .entries) (shown .newest) (now (names .entry)) (now (words .entry))) at (now (out .entry)) (now (out .exit)) r ⌝ }
 {
-    let a = write_pid(out, at, p);
-    let b = write_history(out, a, entries);
+    let newest = shown.newest;
+    let a = write_pid(out, at, shown.place);
+    let b = write_history(out, a, shown.entries);
     let c = write_newest(out, b, newest);
     let d = write_queue(out, c, names);
     write_control(out, d, words)

@@ -8,10 +8,10 @@ use Rattle.checks.proofs.binding.keep_plain.Statement.{statement}
 use Rattle.checks.proofs.binding.keep_plain.Tie as tie
 
 abbrev Inv-loop : tie.InvT-loop
-Inv-loop row at owed scope arities unique checks₀ a₀ left₀ checks a left = Gets row at owed scope arities unique checks₀ a left checks
+Inv-loop row scope arities unique checks₀ a₀ left₀ checks a left = Gets row a₀ left₀ scope arities unique checks₀ a left checks
 
 abbrev μ-loop : tie.MeasureT-loop
-μ-loop row at owed scope arities unique checks₀ a₀ left₀ checks a left = length row - a
+μ-loop row scope arities unique checks₀ a₀ left₀ checks a left = length row - a
 
 loop-holds : tie.Need-loop-holds Inv-loop μ-loop
 loop-holds c = search gets-start

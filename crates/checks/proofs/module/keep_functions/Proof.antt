@@ -32,8 +32,8 @@ cast-parameters c = search needs
 parameters-requires : tie.Need-parameters-requires Inv-loop μ-loop
 parameters-requires c κs = search needs
 
-add-keep : tie.Need-add-keep Inv-loop μ-loop
-add-keep c = search needs
+add-from : tie.Need-add-from Inv-loop μ-loop
+add-from c = search needs
 
 keep-requires : tie.Need-keep-requires Inv-loop μ-loop
 keep-requires c κs = search needs
@@ -70,7 +70,7 @@ keep-functions-spec =
     n-requires
     cast-parameters
     parameters-requires
-    add-keep
+    add-from
     keep-requires
     enum-known-walk
     returns

@@ -17,7 +17,7 @@ use lib.ListN.{length}
 use Rattle.copying.proofs.RowCopy.{copy-none, copy-past, copy-full, copy-value, copy-short, copy-integer, copy-node}
 
 abbrev μ-copy : Measures 4 copy-kinds.ps ℕ
-μ-copy κs a = length (a .0 .now) - a .1 .0
+μ-copy κs a = length (a .0 .now) - a .1 .0 .at
 
 abbrev copy-at : ℕ → In 4 copy-kinds.ps
 copy-at t = and 4 copy-kinds.ps (is 4 copy-kinds.ps μ-copy t) copy.Pre
@@ -35,10 +35,10 @@ pub +copy-spec : {M : Type 1} → statement M
     (λ c. search copy-full)
     (λ c. search needs)
     (λ c. search needs)
-    (λ c κs. search needs)
     (λ c. search needs)
     (λ c κs. search needs)
     (λ c. search needs)
+    (λ c κs. search needs)
     (λ c. search needs)
     (λ c κs. search needs)
     (λ c. search needs)
@@ -53,11 +53,9 @@ pub +copy-spec : {M : Type 1} → statement M
     (λ c. search needs)
     (λ c κs. search needs)
     (λ c. search needs)
-    (λ c. search needs)
     (λ c κs. search needs)
     (λ c. search needs)
     (λ c. search copy-integer)
-    (λ c. search needs)
     (λ c. search needs)
     (λ c κs. search needs)
     (λ c. search needs)

@@ -19,6 +19,9 @@ past-requires c κs = search needs
 returns : tie.Need-returns
 returns c = no-lines _ _ _ _ _ _ (c .before .before .in-pool .ensures) (not-true _ (c .before .if1 .taken)) (search needs) (search needs)
 
+cast-place : tie.Need-cast-place
+cast-place c = omega (arith, place-low _ (c .before .before .before .before .pre .0) _ (c .before .before .before .before .pre .1))
+
 entry-count-requires : tie.Need-entry-count-requires
 entry-count-requires c κs = search needs
 
@@ -27,9 +30,6 @@ cast-entries c = omega (arith, entries-few _ (c .before .before .before .before 
 
 newest-requires : tie.Need-newest-requires
 newest-requires c κs = search needs
-
-cast-write-process : tie.Need-cast-write-process
-cast-write-process c = omega (arith, place-low _ (c .before .before .before .before .before .before .before .pre .0) _ (c .before .before .before .before .before .before .before .pre .1))
 
 queue-requires : tie.Need-queue-requires
 queue-requires c κs = search needs
@@ -54,10 +54,10 @@ write-place-spec =
     in-pool-requires
     past-requires
     returns
+    cast-place
     entry-count-requires
     cast-entries
     newest-requires
-    cast-write-process
     queue-requires
     control-requires
     write-process-requires
