@@ -11,6 +11,7 @@ pub mod Shams
 pub mod Promises
 pub mod PastDecides
 pub mod WordsAgree
+pub mod ForwardMeets
 pub mod QueuedOnce
 pub mod TextLengths
 pub mod ListingRoom

@@ -24,13 +24,13 @@ use Rattle.calls.proofs.Loads.{reached-store}
 use Rattle.calls.proofs.Returns.{accepted-call}
 
 -- the commands of accepted calls run, and the image of the state where they end is left
-record Ran (s : State) (rest : List ℕ) (cs : List Command) (last : List ℕ) : Type 0 where
-  end : State
-  run : Run (Step runState) s cs end
-  sound : Sound end
-  words : last ≡ image end ++ rest
+pub record Ran (s : State) (rest : List ℕ) (cs : List Command) (last : List ℕ) : Type 0 where
+  pub end : State
+  pub run : Run (Step runState) s cs end
+  pub sound : Sound end
+  pub words : last ≡ image end ++ rest
 
-ran : {l last : List ℕ} {cs : List Command} (s : State) (rest : List ℕ) → Sound s → l ≡ image s ++ rest → Accepted l cs last → Ran s rest cs last
+pub ran : {l last : List ℕ} {cs : List Command} (s : State) (rest : List ℕ) → Sound s → l ≡ image s ++ rest → Accepted l cs last → Ran s rest cs last
 unfolding RequestCall
 ran s rest sound at no-call = record { end = s; run = run-done; sound = sound; words = at }
 ran {l} s rest sound at (call {c} o called h others) =

@@ -5,5 +5,6 @@ pub mod Numbers
 pub mod Answering
 pub mod PastDecides
 pub mod WordsAgree
+pub mod ForwardMeets
 pub mod ListingRoom
 pub mod Demand1

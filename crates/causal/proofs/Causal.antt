@@ -64,5 +64,6 @@ module _ {State Command : Type 0} {Step : State → Command → State → Type 0
     turns-keeps = turns-keeps laws;
     parabolic = parabolic laws;
     forward-only = forward-only;
+    any-forward = forward-length;
     causal = λ reach p q. (λ same. end-alike reach p (rw (← same) at q), λ turns. turns-same reach p q turns);
   }

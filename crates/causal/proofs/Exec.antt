@@ -44,5 +44,6 @@ module _ {State Command : Type 0} {exec : Command → State → Option State} {r
     turns-keeps = λ good x. runs-alike exec (consistency laws .turns-keeps good x);
     parabolic = λ ts s e good r. consistency laws .parabolic good (of-run exec ts r);
     forward-only = λ ts e r. consistency laws .forward-only (of-run exec ts r);
+    any-forward = consistency laws .any-forward;
     causal = λ history ts us s a b r p q. consistency laws .causal (history, of-run exec history r) (of-run exec ts p) (of-run exec us q);
   }

@@ -39,6 +39,8 @@ module _ {State Command : Type 0} (Step : State → Command → State → Type 0
     pub parabolic : {s e : State} {ts : List Command} → Good s → Run Step s ts e → Parabola s ts e
     -- From the root each accepted sequence turns into one that only goes forward.
     pub forward-only : {e : State} {ts : List Command} → Run Step root ts e → ForwardOnly measure root ts e
+    -- However a forward sequence goes, its length is what the measure grows by.
+    pub any-forward : {s e : State} {up : List Command} → Good s → Directed Step forward true s up e → length up + measure s ≡ measure e
     -- Causal consistency: from a reachable state two accepted sequences end in equal states exactly when one turns into the other.
     pub causal : {s a b : State} {ts us : List Command} → ReachedFrom Step root s → Run Step s ts a → Run Step s us b
         → (a ≡ b) ↔ Turns Step reverse Independent s ts us

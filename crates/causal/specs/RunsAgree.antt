@@ -1,11 +1,13 @@
 -- Causal consistency for a system that is a function.
-use Prim.Native.Nat.{ℕ}
+use Prim.Native.Nat.{ℕ, _+_}
 use mathlib.Core.Path.{_≡_}
-use mathlib.Core.Bool.{Bool}
+use mathlib.Core.Bool.{Bool, true}
 use mathlib.Core.Logic.{_↔_}
 use mathlib.Core.Option.{Option, some}
 use mathlib.Core.List.{List}
+use lib.ListN.{length}
 use Rattle.causal.specs.Paths.{Change, Turns}
+use Rattle.causal.specs.Directed.{Directed}
 use Rattle.causal.specs.Causal.{Parabola, ForwardOnly}
 use Rattle.causal.specs.Exec.{Step, runAll}
 
@@ -21,6 +23,8 @@ module _ {State Command : Type 0} (exec : Command → State → Option State) wh
     pub parabolic : (ts : List Command) (s e : State) → Good s → runAll exec ts s ≡ some e → Parabola (Step exec) reverse Independent forward s ts e
     -- From the root each accepted sequence turns into one that only goes forward.
     pub forward-only : (ts : List Command) (e : State) → runAll exec ts root ≡ some e → ForwardOnly (Step exec) reverse Independent forward measure root ts e
+    -- However a forward sequence goes, its length is what the measure grows by.
+    pub any-forward : {s e : State} {up : List Command} → Good s → Directed (Step exec) forward true s up e → length up + measure s ≡ measure e
     -- Causal consistency: from a state that `history` reaches two accepted sequences end in equal states exactly when one turns into the other.
     pub causal : (history ts us : List Command) (s a b : State) → runAll exec history root ≡ some s → runAll exec ts s ≡ some a → runAll exec us s ≡ some b
         → (a ≡ b) ↔ Turns (Step exec) reverse Independent s ts us

@@ -154,6 +154,7 @@ module _ (laws-of : (module′ : List ℕ) (sizes : Sizes) → goodSizes sizes �
       turned-alike = λ s ts us r x. runs (r .module′) (r .sizes) (r .is-load) .turns-keeps (reached r) x;
       parabolic = λ s e ts r p. runs (r .module′) (r .sizes) (r .is-load) .parabolic ts s e (reached r) p;
       forward-only = λ module′ sizes root e ts l p. runs module′ sizes l .forward-only ts e p;
+      any-forward = λ s e up r p. runs (r .module′) (r .sizes) (r .is-load) .any-forward (reached r) p;
     };
   }
 

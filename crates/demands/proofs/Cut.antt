@@ -315,11 +315,15 @@ count-off s k low = split (s .sizes .places) ∙ ap (λ n. n + total (s .sizes .
     split : (n : ℕ) → total n (level s) ≡ total n (λ x. level s x - k x) + total n k
     split n = sum-minus n _ _ _ (λ y. omega (arith, low (entriesOf y), low (deliveriesTo y)))
 
-enough-rounds : (s : State) → total (s .sizes .places) (level s) ≤ length (events s)
-unfolding takenOff
-enough-rounds s =
-    let all : Cut = λ x. 0 in
-    omega (arith, count-is s all, total-low (s .sizes .places) (level s) (λ x. level s x - 0) (λ x. omega arith), keep-fewer (λ e. not (stays all e)) (events s))
+-- the cut that keeps nothing takes off all events
+all-off : (xs : List Event) → keep (λ e. not (stays (λ x. 0) e)) xs ≡ xs
+unfolding stays
+all-off [] = keep-nil _
+all-off (event x i ∷ xs) = keep-true _ (event x i) xs (ap not (ltb-over i 0 (omega arith))) ∙ ap (λ ys. event x i ∷ ys) (all-off xs)
+
+pub events-many : (s : State) → length (events s) ≡ total (s .sizes .places) (level s)
+unfolding takenOff total
+events-many s = ap length (sym (all-off (events s))) ∙ count-is s (λ x. 0) ∙ sum-same (s .sizes .places) _ _ (λ p h. omega arith)
 
 -- ---- the cut that is computed is the set's
 module _ {s : State} (sound : Sound s) (x : Series) (i : ℕ) (h : i < level s x) where
@@ -332,7 +336,7 @@ module _ {s : State} (sound : Sound s) (x : Series) (i : ℕ) (h : i < level s x
 
   settled-cut : Settled sound (dependents-up s x i) (cutBefore s (event x i)) (cutTo x i (level s))
   unfolding cutBefore
-  settled-cut = settles sound (dependents-up s x i) (cutTo x i (level s)) start-within start-low (enough-rounds s)
+  settled-cut = settles sound (dependents-up s x i) (cutTo x i (level s)) start-within start-low (omega (arith, events-many s))
 
   pub cut-is : IsCut s (WithDependents s (event x i)) (cutBefore s (event x i))
   cut-is = closed-cut x i (settled-cut .closed) (settled-cut .within) (omega (arith, settled-cut .lower x, cut-at x i (level s)))

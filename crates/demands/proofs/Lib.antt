@@ -57,3 +57,4 @@ pub mod Once
 pub mod CountIsSize
 pub mod Refusing
 pub mod SpawnFits
+pub mod Forward

@@ -158,7 +158,7 @@ root-reached {module′} {sizes} l =
     subst Reached (l .is) (reached-load module′ sizes (work-laws module′ (sizes .places) (l .module-passes) (say .some-place) (omega (arith, say .few-places))) (l .sizes-pass) (l .module-passes))
 
 -- nothing has happened at a load
-root-empty : (module′ : List ℕ) (sizes : Sizes) (x : Series) → level (loaded module′ sizes) x ≡ 0
+pub root-empty : (module′ : List ℕ) (sizes : Sizes) (x : Series) → level (loaded module′ sizes) x ≡ 0
 unfolding level arrivals queuesShown shownIn loaded keep
 root-empty module′ sizes (entriesOf p) = ap length (load-history module′ sizes p)
 root-empty module′ sizes (deliveriesTo q) = ap (λ h. length (shownIn [] (queuesShown h []))) (load-history module′ sizes q)

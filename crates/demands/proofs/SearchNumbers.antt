@@ -217,7 +217,7 @@ module _ {t : State} (sound : Sound t) where
   place-came {sender} {k} {q} {n = n} r m =
       any-append (t .queues q) (any-come {P = Named sender k} (historyAt t q) (t .queues q) (sound .prefixes q) .0 (subst (Any (Named sender k)) (sym (r .at) ∙ arrivals-at sound q) (any-middle (r .before) n (r .after) m)))
 
-  level-come : (q : ℕ) → level t (deliveriesTo q) ≡ length (t .queues q) + length (taken (historyAt t q))
+  pub level-come : (q : ℕ) → level t (deliveriesTo q) ≡ length (t .queues q) + length (taken (historyAt t q))
   unfolding level
   level-come q = ap length (arrivals-at sound q) ∙ length-come (historyAt t q) (t .queues q) (sound .prefixes q)
 

@@ -8,6 +8,7 @@ use mathlib.Core.Option.{some}
 use mathlib.Core.List.{List, _++_}
 use lib.ListN.{length}
 use Rattle.lists.specs.Lists.{keep}
+use Rattle.causal.specs.Directed.{Directed}
 use Rattle.causal.specs.Causal.{Parabola, ForwardOnly}
 use Rattle.causal.specs.Exec.{Step, runAll}
 use Rattle.rules.specs.State.{letter, Sizes, State, historyAt, isNamed}
@@ -76,6 +77,8 @@ pub record SequencesTurn : Type 0 where
   -- from a load each turns into one that only goes forward
   pub forward-only : (module′ : List ℕ) (sizes : Sizes) (root e : State) (ts : List Command) → load module′ sizes ≡ loads root → runAll runState ts root ≡ some e
       → ForwardOnly (Step runState) reverse Independent isForward amountDone root ts e
+  -- however a forward one goes, each of its steps does one more
+  pub any-forward : (s e : State) (up : List Command) → Reachable s → Directed (Step runState) isForward true s up e → length up + amountDone s ≡ amountDone e
 
 pub record Consequences : Type 0 where
   pub sound : StaysSound

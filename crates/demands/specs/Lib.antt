@@ -7,3 +7,4 @@ pub mod Least
 pub mod Size
 pub mod CountIsSize
 pub mod SpawnFits
+pub mod ForwardAlone
