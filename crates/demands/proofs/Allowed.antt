@@ -10,7 +10,7 @@ use Rattle.rules.specs.Commands.{Deed, delivers, undelivers, Beside, Move, turn
 use Rattle.rules.specs.Rules.{process, message, About, LeadsTo}
 use Rattle.rules.specs.Rules
 use Rattle.demands.proofs.Does.{by-seq, by-self, by-check, Makes, alone, by-send, by-receive, by-spawn, seq-alone, self-alone, check-alone, Undoes, undo-alone, undo-send, undo-receive, undo-spawn, Does, forward, backward, sched, unsched}
-use Rattle.demands.proofs.Oldest.{picks-oldest}
+use Rattle.rules.proofs.Oldest.{picks-oldest}
 
 -- what is written beside a process that makes an entry, where that leads to the state after
 pub record Written (s : State) (p : ℕ) (control : List ℕ) (history : List Entry) (kind : Kind) (next : List ℕ) (after : State) : Type 0 where

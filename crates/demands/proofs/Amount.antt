@@ -17,9 +17,9 @@ use Rattle.rules.specs.Rules.{message}
 use Rattle.rules.specs.Independent.{Apart, actsAt}
 use Rattle.rules.specs.Sound.{Sound}
 use Rattle.rules.specs.Reverse.{doneAt, total, amountDone}
+use Rattle.rules.proofs.Oldest.{pick-is}
 use Rattle.demands.proofs.Does.{alone, by-send, by-receive, by-spawn, Does, forward, backward, sched, unsched}
 use Rattle.demands.proofs.Views.{made-alone, alone-rec}
-use Rattle.demands.proofs.Messages.{pick-is}
 use Rattle.demands.proofs.Frame.{Turned, same, grown, shrunk, turned, same-sizes, keep-queue, in-pool}
 use Rattle.demands.proofs.Questions.{flight-lives}
 use Rattle.demands.proofs.Square.{actor-apart, mailbox-apart, receiver-apart}

@@ -19,9 +19,10 @@ use Rattle.rules.specs.Independent.{Apart, mailbox, ifRec, receiver}
 use Rattle.rules.specs.Sound.{Sound}
 use Rattle.rules.specs.Depends.{arrivals, Series, entriesOf, deliveriesTo, level}
 use Rattle.rules.specs.Standing.{Suffix, whole, older, come}
+use Rattle.rules.proofs.Oldest.{pick-is}
 use Rattle.demands.proofs.Does.{alone, by-send, by-receive, by-spawn, undo-alone, undo-send, undo-receive, undo-spawn, Does, forward, backward, sched, unsched}
 use Rattle.demands.proofs.Views.{made-alone, alone-rec}
-use Rattle.demands.proofs.Messages.{pick-is, once-of}
+use Rattle.demands.proofs.Messages.{once-of}
 use Rattle.demands.proofs.Histories.{suffix-length, suffix-top}
 use Rattle.demands.proofs.Frame.{Turned, same, grown, shrunk, turned, keep-queue, in-pool}
 use Rattle.demands.proofs.Deeds.{new-is-other}

@@ -15,8 +15,9 @@ use Rattle.rules.specs.Rules.{process}
 use Rattle.rules.specs.Independent.{unspawns, Unsends}
 use Rattle.rules.specs.Sound.{SentTo, Sound}
 use Rattle.rules.specs.Standing.{Suffix}
+use Rattle.rules.proofs.Oldest.{pick-is, pick-takes}
 use Rattle.demands.proofs.Does.{by-seq, by-self, by-check, Makes, alone, by-send, by-receive, by-spawn, Does}
-use Rattle.demands.proofs.Messages.{Is, any-middle, pick-is, pick-takes}
+use Rattle.demands.proofs.Messages.{Is, any-middle}
 use Rattle.demands.proofs.Histories.{suffix-top, suffix-tail, suffix-entry, suffix-sent, suffix-taken}
 use Rattle.demands.proofs.Frame.{turned, not-in-pool, history-of}
 use Rattle.demands.proofs.Deeds.{unspawning}

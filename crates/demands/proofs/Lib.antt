@@ -15,7 +15,6 @@ pub mod SearchNumbers
 pub mod SearchLoop
 pub mod RollbackExamples
 pub mod Does
-pub mod Oldest
 pub mod Allowed
 pub mod Views
 pub mod Messages

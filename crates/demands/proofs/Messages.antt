@@ -1,4 +1,4 @@
--- Lists of messages: which of them hold a message with a property, when two are the same, and what a receive picks.
+-- Lists of messages: which of them hold a message with a property, and when two are the same.
 use Prim.Native.Nat.{ℕ}
 use mathlib.Core.Path.{_≡_, refl, sym, ap}
 use mathlib.Core.Logic.{_⊎_, inl, inr}
@@ -12,7 +12,6 @@ use Rattle.lists.proofs.Tests.{true-not-false, true-or-false, none-not-some, eq
 use Rattle.lists.proofs.Lists.{same-list, list-same}
 use Rattle.rules.specs.State.{Message, isNamed, sameMessage, sameQueue}
 use Rattle.rules.specs.Sound.{distinct}
-use Rattle.rules.specs.Commands.{Picked, picked, orLater, pick}
 
 -- a message with the property stands in the list
 pub data Any (P : Message → Type 0) : List Message → Type 0 where
@@ -142,32 +141,6 @@ queue-same-own (m ∷ a) = and-of (and-of (named-is {s = m .sender} {k = m .coun
 
 pub queue-same : {a b : List Message} → a ≡ b → sameQueue a b ≡ true
 queue-same {a} {b} e = rw e (queue-same-own b)
-
--- ---- what a receive picks
-pub pick-is : (takes : List ℕ → Option (List ℕ)) (q : List Message) {a : List Message} {m : Message} {b : List Message} {next : List ℕ}
-    → pick takes q ≡ some (picked a m b next) → q ≡ a ++ (m ∷ b)
-unfolding pick orLater
-pick-is takes [] e = none-not-some e
-pick-is takes (x ∷ q) {a} {m} {b} {next} e = go (takes (x .value)) (pick takes q) (λ a m b next e. pick-is takes q e) e
-  where
-    go : (o : Option (List ℕ)) (r : Option Picked) → ((a : List Message) (m : Message) (b : List Message) (next : List ℕ) → r ≡ some (picked a m b next) → q ≡ a ++ (m ∷ b))
-        → orLater x q o r ≡ some (picked a m b next) → x ∷ q ≡ a ++ (m ∷ b)
-    go (some d) r h e = cc
-    go none none h e = cc
-    go none (some (picked a′ m′ b′ next′)) h e = let z = h a′ m′ b′ next′ refl in cc
-
-pub pick-takes : (takes : List ℕ → Option (List ℕ)) (q : List Message) {a : List Message} {m : Message} {b : List Message} {next : List ℕ}
-    → pick takes q ≡ some (picked a m b next) → takes (m .value) ≡ some next
-unfolding pick orLater
-pick-takes takes [] e = none-not-some e
-pick-takes takes (x ∷ q) {a} {m} {b} {next} e = go (takes (x .value)) refl (pick takes q) (λ a m b next e. pick-takes takes q e) e
-  where
-    go : (o : Option (List ℕ)) → takes (x .value) ≡ o → (r : Option Picked)
-        → ((a : List Message) (m : Message) (b : List Message) (next : List ℕ) → r ≡ some (picked a m b next) → takes (m .value) ≡ some next)
-        → orLater x q o r ≡ some (picked a m b next) → takes (m .value) ≡ some next
-    go (some d) i r h e = cc
-    go none i none h e = cc
-    go none i (some (picked a′ m′ b′ next′)) h e = let z = h a′ m′ b′ next′ refl in cc
 
 -- ---- no two messages of one name
 abbrev Like : Message → Message → Type 0

@@ -20,9 +20,10 @@ use Rattle.rules.specs.Sound.{Sound}
 use Rattle.rules.specs.Depends.{arrivals, Series, entriesOf, deliveriesTo, level, dependsAtOnce, event}
 use Rattle.rules.specs.Standing.{Stands, Arrives}
 use Rattle.rules.specs.Rollback.{Cut, isUndo}
+use Rattle.rules.proofs.Oldest.{pick-is}
 use Rattle.demands.proofs.Does.{alone, by-send, by-receive, by-spawn, undo-alone, undo-send, undo-receive, undo-spawn, Does, forward, backward}
 use Rattle.demands.proofs.Views.{made-alone, alone-rec, alone-send}
-use Rattle.demands.proofs.Messages.{Any, here, there, any-less, any-middle, Named, pick-is}
+use Rattle.demands.proofs.Messages.{Any, here, there, any-less, any-middle, Named}
 use Rattle.demands.proofs.Histories.{suffix-top}
 use Rattle.demands.proofs.Questions.{Came, flight-fresh}
 use Rattle.demands.proofs.Square.{square}

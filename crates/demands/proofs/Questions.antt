@@ -15,9 +15,10 @@ use Rattle.rules.specs.Flight.{sends, sent, alsoTaken, taken, left, hasCome, fl
 use Rattle.rules.specs.Commands.{Deed, undoes, delivers, Beside, Move, setProcess, setQueue, setBeside, apply, entryWith}
 use Rattle.rules.specs.Rules.{message, InFlight}
 use Rattle.rules.specs.Independent.{Apart, actor, ifRec, receiver, spawnsInto, unspawns, Unsends}
+use Rattle.rules.proofs.Oldest.{pick-is}
 use Rattle.demands.proofs.Does.{Makes, alone, by-send, by-receive, by-spawn, undo-alone, undo-send, undo-receive, undo-spawn, Does, forward, backward, sched, unsched}
 use Rattle.demands.proofs.Views.{made-alone, alone-rec}
-use Rattle.demands.proofs.Messages.{Any, here, any-append, any-left, any-more, any-middle, any-less, any-one, Named, find-named, named-found, pick-is}
+use Rattle.demands.proofs.Messages.{Any, here, any-append, any-left, any-more, any-middle, any-less, any-one, Named, find-named, named-found}
 use Rattle.demands.proofs.Histories.{letter-older, letter-which, sent-below, below-not-same, left-older, taken-older, taken-more, taken-which}
 use Rattle.demands.proofs.Deeds.{targetOf, target, unspawning, spawning}
 use Rattle.demands.proofs.Frame.{Turned, same, grown, shrunk, turned, keep-process, in-pool}

@@ -26,7 +26,7 @@ use Rattle.demands.proofs.Reached.{makes-forward}
 use Rattle.demands.proofs.Frame.{no-process, not-in-pool as place-free, process-of, in-pool, history-of}
 use Rattle.demands.proofs.Plans.{refused, need-true, PoolEnds}
 use Rattle.demands.proofs.Allowed.{makes-so, written, undoes-so, restored}
-use Rattle.demands.proofs.Oldest.{picked-none, none-picked}
+use Rattle.rules.proofs.Oldest.{picked-none, none-picked}
 use Rattle.demands.proofs.RunSound.{run-sound}
 use Rattle.demands.proofs.RunComplete.{run-making, run-complete}
 

@@ -17,8 +17,8 @@ use Rattle.rules.specs.Rules.{process, makingOf, commandOf}
 use Rattle.rules.specs.Independent.{spawnsInto, unspawns, Apart}
 use Rattle.rules.specs.Sound.{Sound}
 use Rattle.rules.specs.Standing.{Suffix}
+use Rattle.rules.proofs.Oldest.{pick-is}
 use Rattle.demands.proofs.Does.{MakesAlone, Makes, alone, by-send, by-receive, by-spawn, Undoes, undo-alone, undo-send, undo-receive, undo-spawn, Does, forward, backward}
-use Rattle.demands.proofs.Messages.{pick-is}
 use Rattle.demands.proofs.Histories.{suffix-top, nil-cons}
 use Rattle.demands.proofs.Frame.{turned, work-after, alone-after, same-sizes, state-path, not-in-pool, history-of}
 use Rattle.demands.proofs.Deeds.{process-control, new-is-other}

@@ -16,9 +16,10 @@ use Rattle.rules.specs.State.{Message, letter, Kind, asSend, asCheck, Entry, Pr
 use Rattle.rules.specs.Commands.{Deed, makes, Beside, Move, apply, entryWith}
 use Rattle.rules.specs.Rules.{process}
 use Rattle.rules.specs.Sound.{SoundControl, AboutToSend, SentTo, Sound}
+use Rattle.rules.proofs.Oldest.{pick-is, pick-takes}
 use Rattle.demands.proofs.Does.{by-seq, by-self, by-check, Makes, alone, by-send, by-receive, by-spawn, Does}
 use Rattle.demands.proofs.Views.{made-alone, alone-send}
-use Rattle.demands.proofs.Messages.{Is, any-middle, pick-is, pick-takes}
+use Rattle.demands.proofs.Messages.{Is, any-middle}
 use Rattle.demands.proofs.Histories.{suffix-entry, entry-suffix, sent-suffix}
 use Rattle.demands.proofs.Frame.{turned, same-module, same-sizes, in-pool}
 use Rattle.demands.proofs.Questions.{Among}

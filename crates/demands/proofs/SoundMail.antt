@@ -16,9 +16,10 @@ use Rattle.rules.specs.Commands.{Deed, makes, undoes, delivers, undelivers, Mov
 use Rattle.rules.specs.Rules.{process, message}
 use Rattle.rules.specs.Independent.{Apart, mailbox, ifRec, receiver, unspawns, Unsends}
 use Rattle.rules.specs.Sound.{distinct, SentTo, Prefix, Flows, Sound}
+use Rattle.rules.proofs.Oldest.{pick-is}
 use Rattle.demands.proofs.Does.{alone, by-send, by-receive, by-spawn, undo-alone, undo-send, undo-receive, undo-spawn, Does, forward, backward, sched, unsched}
 use Rattle.demands.proofs.Views.{made-alone, alone-send, alone-rec}
-use Rattle.demands.proofs.Messages.{Is, any-append, any-map, any-none, all-of, Named, pick-is, Once, once-of, of-once, once-in, once-out, once-take, once-give}
+use Rattle.demands.proofs.Messages.{Is, any-append, any-map, any-none, all-of, Named, Once, once-of, of-once, once-in, once-out, once-take, once-give}
 use Rattle.demands.proofs.Frame.{Turned, same, grown, shrunk, turned, keep-queue, in-pool, history-of}
 use Rattle.demands.proofs.Deeds.{target, unspawning, sending}
 use Rattle.demands.proofs.Questions.{Among, Came, Posts, flight-of, flight-lives, flight-fresh, at?, among-was, stays-live, free-acts, sent-stays, sent-was, taken-stays, no-rec}

@@ -17,9 +17,10 @@ use Rattle.rules.specs.Commands.{Command, deliver, back, undeliver, Deed, makes
 use Rattle.rules.specs.Rules.{process, message, InFlight, commandOf}
 use Rattle.rules.specs.Independent.{Apart, actor, mailbox, actsAt, ifRec, receiver, spawnsInto, unspawns, Unsends, Crossed, IndependentDeeds}
 use Rattle.rules.specs.Sound.{SentTo, Sound}
+use Rattle.rules.proofs.Oldest.{pick-is}
 use Rattle.demands.proofs.Does.{alone, by-send, by-receive, by-spawn, Undoes, undo-alone, undo-send, undo-receive, undo-spawn, Does, forward, backward, sched, unsched}
 use Rattle.demands.proofs.Views.{made-alone, alone-rec, alone-spawn}
-use Rattle.demands.proofs.Messages.{Any, any-left, any-right, any-middle, Named, pick-is, once-of, once-out}
+use Rattle.demands.proofs.Messages.{Any, any-left, any-right, any-middle, Named, once-of, once-out}
 use Rattle.demands.proofs.Histories.{sent-below, below-not-same, letter-own}
 use Rattle.demands.proofs.Frame.{state-path, turned, no-process, in-pool}
 use Rattle.demands.proofs.Deeds.{target, targetOf, new-is-other}

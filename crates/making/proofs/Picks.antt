@@ -17,7 +17,9 @@ use Rattle.step.specs.declared.step.Next.the-variants.{Nothing, TooLarge, Row}
 use Rattle.rules.specs.State.{Message, State, historyAt}
 use Rattle.rules.specs.Flight.{taken}
 use Rattle.rules.specs.Sound.{SentTo}
-use Rattle.rules.specs.Commands.{Picked, picked, orLater, pick}
+use Rattle.rules.specs.Commands.{Picked, picked, pick}
+use Rattle.rules.specs.Receives.{NoneTaken}
+use Rattle.rules.proofs.Oldest.{none-picked, ahead-picked}
 use Rattle.store.specs.Layout.{nameWord}
 use Rattle.reading.specs.Reads.{Holds, OfState}
 use Rattle.making.specs.Making.{about, IsSent, TakenRow, PickIs, PickedRow}
@@ -30,17 +32,6 @@ Takes = List ℕ → Option (List ℕ)
 -- a receive passes over these messages
 abbrev Passed : Takes → Message → Type 0
 Passed takes m = takes (m .value) ≡ none
-
-pick-none : (takes : Takes) (q : List Message) → All (Passed takes) q → pick takes q ≡ none
-unfolding pick orLater All
-pick-none takes [] a = refl
-pick-none takes (m ∷ q) a = rw (a .0, pick-none takes q (a .1)) refl
-
-pick-first : (takes : Takes) (older : List Message) (m : Message) (newer : List Message) (row : List ℕ) → All (Passed takes) older → takes (m .value) ≡ some row
-    → pick takes (older ++ (m ∷ newer)) ≡ some (picked older m newer row)
-unfolding pick orLater All
-pick-first takes [] m newer row a e = rw e refl
-pick-first takes (x ∷ older) m newer row a e = rw (a .0, pick-first takes older m newer row (a .1) e) refl
 
 -- any message, for a place outside of a queue
 abbrev nobody : Message
@@ -102,12 +93,12 @@ module _ (l names : List ℕ) (p i : ℕ) (named : OfState l (NamesAre p names))
         (x .1 ∙ w .0, subst (All (Passed takes)) (sym longer) (all-append (Passed takes) (take i (s .queues p)) (here s rest h ∷ []) (w .1) (x .0, tt)))
 
     stops : (told : Next) → next ≡ told → ¬ (told ≡ Nothing) → (r : Told) → r .place ≡ i → r .next ≡ told → OfState l (PickedRow p old new r)
-    unfolding OfState Walked TakenRow PickedRow PickIs
+    unfolding OfState Walked TakenRow PickedRow PickIs NoneTaken
     stops told e d r place is s rest h takes a =
         let w = walked s rest h takes a in
         let x = row-some _ between new next (row s rest h takes (here s rest h) a (here-sent s rest h) (here-named s rest h)) (λ z. d (sym e ∙ z)) in
         let found : pick takes (s .queues p) ≡ some (picked (take i (s .queues p)) (here s rest h) (drop (suc i) (s .queues p)) (x .0)) =
-        ap (pick takes) (here-splits s rest h) ∙ pick-first takes (take i (s .queues p)) (here s rest h) (drop (suc i) (s .queues p)) (x .0) (w .1) (x .1) in
+        ap (pick takes) (here-splits s rest h) ∙ ahead-picked takes (take i (s .queues p)) (here s rest h) (drop (suc i) (s .queues p)) (w .1) (x .1) in
         let within = in-queue s rest h in
         subst (λ (o : Option Picked). PickIs o old new r) (sym found)
         (length-take-le i (s .queues p) (omega arith) ∙ sym place, subst (WroteNext (x .0) old new) (e ∙ sym is) (subst (λ (b : List ℕ). WroteNext (x .0) b new next) (w .0) (x .2)))
@@ -120,8 +111,8 @@ module _ (l names : List ℕ) (p i : ℕ) (named : OfState l (NamesAre p names))
 
 pub walk-ends : (l names old new : List ℕ) (p i : ℕ) → OfState l (NamesAre p names) → OfState l (Walked p i old new) → length names ≤ i
     → OfState l (PickedRow p old new (record { place = i; next = Nothing }))
-unfolding OfState Walked PickedRow PickIs
+unfolding OfState Walked PickedRow PickIs NoneTaken
 walk-ends l names old new p i named walked past s rest h takes a =
     let w = walked s rest h takes a in
     let whole : take i (s .queues p) ≡ s .queues p = take-all i (s .queues p) (omega (arith, ap length (named s rest h), length-map (s .queues p) nameWord)) in
-    subst (λ (o : Option Picked). PickIs o old new (record { place = i; next = Nothing })) (sym (pick-none takes (s .queues p) (subst (All (Passed takes)) whole (w .1)))) refl
+    subst (λ (o : Option Picked). PickIs o old new (record { place = i; next = Nothing })) (sym (none-picked takes (s .queues p) (subst (All (Passed takes)) whole (w .1)))) refl

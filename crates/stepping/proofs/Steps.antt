@@ -19,7 +19,7 @@ use Rattle.rules.specs.Sound.{Sound}
 use Rattle.rules.specs.Answers.{stuck as stuckNumber}
 use Rattle.rules.specs.Commands.{step, spawnInto, Beside, nothing, ownQueue, refuse, need, Picked, picked, pick, making, receiving, stepping, spawning, atProcess, run}
 use Rattle.rules.specs.Replies.{perform}
-use Rattle.demands.proofs.Messages.{pick-is}
+use Rattle.rules.proofs.Oldest.{pick-is}
 use Rattle.store.specs.Layout.{kindSeq, kindSend, kindSelf, kindCheck, kindNumber, numberIn, image}
 use Rattle.store.specs.Image.{IsImage}
 use Rattle.calls.specs.Numbers.{numberOf, valueOf}

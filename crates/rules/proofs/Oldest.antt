@@ -1,4 +1,5 @@
--- What `pick` gives is the oldest message that is taken, and it gives none where none is taken.
+-- What `pick` gives is the oldest message that is taken, and it gives none where none is taken: the rules, which say it without `pick`, and
+-- `run` agree.
 use Prim.Native.Nat.{ℕ}
 use mathlib.Core.Path.{_≡_, refl, sym, _∙_, ap, subst}
 use mathlib.Core.Logic.{_↔_}
@@ -6,10 +7,35 @@ use mathlib.Core.Option.{Option, none, some}
 use mathlib.Core.List.{List, [], _∷_, _++_}
 use Rattle.lists.specs.Lists.{All}
 use Rattle.lists.proofs.Tests.{none-not-some}
 use Rattle.rules.specs.State.{Message}
 use Rattle.rules.specs.Commands.{Picked, picked, orLater, pick}
 use Rattle.rules.specs.Receives.{NoneTaken, TakesOldest}
-use Rattle.demands.proofs.Messages.{pick-is, pick-takes}
+
+-- ---- where what is picked stands, and that it is taken
+pub pick-is : (takes : List ℕ → Option (List ℕ)) (q : List Message) {a : List Message} {m : Message} {b : List Message} {next : List ℕ}
+    → pick takes q ≡ some (picked a m b next) → q ≡ a ++ (m ∷ b)
+unfolding pick orLater
+pick-is takes [] e = none-not-some e
+pick-is takes (x ∷ q) {a} {m} {b} {next} e = go (takes (x .value)) (pick takes q) (λ a m b next e. pick-is takes q e) e
+  where
+    go : (o : Option (List ℕ)) (r : Option Picked) → ((a : List Message) (m : Message) (b : List Message) (next : List ℕ) → r ≡ some (picked a m b next) → q ≡ a ++ (m ∷ b))
+        → orLater x q o r ≡ some (picked a m b next) → x ∷ q ≡ a ++ (m ∷ b)
+    go (some d) r h e = cc
+    go none none h e = cc
+    go none (some (picked a′ m′ b′ next′)) h e = let z = h a′ m′ b′ next′ refl in cc
+
+pub pick-takes : (takes : List ℕ → Option (List ℕ)) (q : List Message) {a : List Message} {m : Message} {b : List Message} {next : List ℕ}
+    → pick takes q ≡ some (picked a m b next) → takes (m .value) ≡ some next
+unfolding pick orLater
+pick-takes takes [] e = none-not-some e
+pick-takes takes (x ∷ q) {a} {m} {b} {next} e = go (takes (x .value)) refl (pick takes q) (λ a m b next e. pick-takes takes q e) e
+  where
+    go : (o : Option (List ℕ)) → takes (x .value) ≡ o → (r : Option Picked)
+        → ((a : List Message) (m : Message) (b : List Message) (next : List ℕ) → r ≡ some (picked a m b next) → takes (m .value) ≡ some next)
+        → orLater x q o r ≡ some (picked a m b next) → takes (m .value) ≡ some next
+    go (some d) i r h e = cc
+    go none i none h e = cc
+    go none i (some (picked a′ m′ b′ next′)) h e = let z = h a′ m′ b′ next′ refl in cc
 
 module _ (takes : List ℕ → Option (List ℕ)) where
   -- ---- one more message in front
@@ -54,7 +80,7 @@ module _ (takes : List ℕ → Option (List ℕ)) where
       go none i (some (picked ahead n behind next)) j f = none-not-some (sym e ∙ pick-later m queue i ∙ ap (orLater m queue none) j)
 
   -- ---- the oldest that is taken
-  ahead-picked : (ahead : List Message) (m : Message) (behind : List Message) {next : List ℕ} → NoneTaken takes ahead → takes (m .value) ≡ some next
+  pub ahead-picked : (ahead : List Message) (m : Message) (behind : List Message) {next : List ℕ} → NoneTaken takes ahead → takes (m .value) ≡ some next
       → pick takes (ahead ++ (m ∷ behind)) ≡ some (picked ahead m behind next)
   unfolding orLater
   ahead-picked [] m behind f e = pick-first m behind e
