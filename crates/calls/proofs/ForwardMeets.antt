@@ -2,7 +2,6 @@
 use Prim.Native.Nat.{ℕ}
 use mathlib.Core.Path.{_≡_, refl, sym, _∙_, ap, subst}
 use mathlib.Core.Bool.{true}
-use mathlib.Core.Option.{some}
 use mathlib.Core.List.{List, _++_}
 use native.Mathlib.Omega.{arith}
 use lib.Dec.{leb}
@@ -14,7 +13,7 @@ use Rattle.causal.specs.Exec.{Step}
 use Rattle.causal.proofs.Exec.{of-run, to-run}
 use Rattle.rules.specs.Answers.{done}
 use Rattle.rules.specs.State.{State}
-use Rattle.rules.specs.Load.{Load, loads, load, loaded}
+use Rattle.rules.specs.Load.{loads, load, loaded}
 use Rattle.rules.specs.Commands.{Command, runState}
 use Rattle.rules.specs.Sound.{Sound}
 use Rattle.rules.specs.Line.{single}
@@ -28,7 +27,7 @@ use Rattle.store.specs.Layout.{needed, image}
 use Rattle.store.specs.Loading.{Outcome, afterLoad, loadInto}
 use Rattle.store.proofs.Laws.{image-laws}
 use Rattle.calls.specs.Calls.{outcome, stored, LoadCall}
-use Rattle.calls.specs.Promises.{Served, ReachedStore}
+use Rattle.calls.specs.Promises.{ReachedStore}
 use Rattle.calls.specs.WordsAgree.{Accepted, no-call, call}
 use Rattle.calls.specs.ForwardMeets.{ForwardCalls, ForwardMeets}
 use Rattle.calls.proofs.Determined.{possible}

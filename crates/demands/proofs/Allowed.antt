@@ -1,13 +1,13 @@
 -- The rules with the state after (rules/specs/Rules) and the rules with what each writes (Does) are the same.
 use Prim.Native.Nat.{ℕ, _<_}
-use mathlib.Core.Path.{_≡_, refl, sym, ap, subst}
+use mathlib.Core.Path.{_≡_, refl, sym, subst}
 use mathlib.Core.Option.{some}
 use mathlib.Core.List.{List, [], _∷_, _++_}
 use lib.ListN.{length}
-use Rattle.rules.specs.State.{Message, Kind, Entry, State, historyAt}
+use Rattle.rules.specs.State.{Kind, Entry, State, historyAt}
 use Rattle.rules.specs.Flight.{sends, left}
-use Rattle.rules.specs.Commands.{Deed, delivers, undelivers, Beside, Move, turn, post, setQueue, setBeside, apply, pick, entryWith}
-use Rattle.rules.specs.Rules.{process, message, About, LeadsTo}
+use Rattle.rules.specs.Commands.{Deed, delivers, Beside, Move, turn, post, setQueue, setBeside, apply, entryWith}
+use Rattle.rules.specs.Rules.{process, message, LeadsTo}
 use Rattle.rules.specs.Rules
 use Rattle.demands.proofs.Does.{by-seq, by-self, by-check, Makes, alone, by-send, by-receive, by-spawn, seq-alone, self-alone, check-alone, Undoes, undo-alone, undo-send, undo-receive, undo-spawn, Does, forward, backward, sched, unsched}
 use Rattle.rules.proofs.Oldest.{picks-oldest}

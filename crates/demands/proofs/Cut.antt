@@ -10,7 +10,7 @@ use lib.Dec.{ltb}
 use lib.ListN.{length, length-append}
 use Rattle.lists.specs.Lists.{any, keep, upTo, joined}
 use Rattle.lists.proofs.Tests.{true-not-false, eqb-same, eqb-apart, ltb-true, ltb-of, ltb-over, ltb-false, and-left, and-right, and-of, or-left, not-true, cond-true, cond-false}
-use Rattle.lists.proofs.Lists.{keep-nil, keep-true, keep-false, keep-append, keep-fewer, joined-next}
+use Rattle.lists.proofs.Lists.{keep-nil, keep-true, keep-false, keep-append, joined-next}
 use Rattle.lists.specs.Members.{In}
 use Rattle.lists.proofs.Members.{in-left, in-right, in-joined, in-map, in-upTo, none-kept, first-kept, in-kept, kept-passes, one-passes, passes}
 use Rattle.rules.specs.State.{State, historyOf, historyAt}

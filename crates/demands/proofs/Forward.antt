@@ -1,9 +1,9 @@
 -- What forward commands alone reach, and how many they are.
-use Prim.Native.Nat.{ℕ, zero, suc, _+_}
+use Prim.Native.Nat.{ℕ, zero, suc}
 use mathlib.Core.Path.{_≡_, refl, sym, _∙_, ap, subst, subst₂}
 use mathlib.Core.Bool.{true}
 use mathlib.Core.Option.{some}
-use mathlib.Core.List.{List, [], _∷_}
+use mathlib.Core.List.{List, []}
 use native.Mathlib.Omega.{arith}
 use lib.ListN.{length}
 use Rattle.lists.specs.Lists.{All}
@@ -12,13 +12,11 @@ use Rattle.causal.specs.Paths.{Run, done, more}
 use Rattle.causal.specs.Directed.{Directed, stay, go}
 use Rattle.causal.specs.Exec.{Step, runAll}
 use Rattle.causal.proofs.Exec.{of-run, to-run}
-use Rattle.rules.specs.State.{Sizes, State, historyAt}
-use Rattle.rules.specs.Flight.{taken}
+use Rattle.rules.specs.State.{Sizes, State}
 use Rattle.rules.specs.Load.{loads, load, loaded}
 use Rattle.rules.specs.Commands.{Command, Plan, refuse, accept, run, afterPlan, runState}
 use Rattle.rules.specs.Sound.{Sound}
 use Rattle.rules.specs.Depends.{Series, entriesOf, deliveriesTo, level}
-use Rattle.rules.specs.Rollback.{events}
 use Rattle.rules.specs.Reverse.{isForward, doneAt, amountDone}
 use Rattle.rules.specs.Reverse
 use Rattle.demands.specs.Demands.{Reachable}

@@ -3,12 +3,11 @@ use Prim.Native.Nat.{ℕ}
 use mathlib.Core.Path.{_≡_, refl, sym, ap}
 use mathlib.Core.Logic.{_⊎_, inl, inr}
 use mathlib.Core.Bool.{true, false, not}
-use mathlib.Core.Option.{Option, none, some}
 use mathlib.Core.List.{List, [], _∷_, _++_, append-assoc}
 use native.Mathlib.Omega.{arith}
 use lib.Dec.{eqb}
 use Rattle.lists.specs.Lists.{any, All, sameList}
-use Rattle.lists.proofs.Tests.{true-not-false, true-or-false, none-not-some, eqb-true, eqb-of, and-left, and-right, and-of, or-true, or-left, or-right, not-true}
+use Rattle.lists.proofs.Tests.{true-not-false, true-or-false, eqb-true, eqb-of, and-left, and-right, and-of, or-true, or-left, or-right, not-true}
 use Rattle.lists.proofs.Lists.{same-list, list-same}
 use Rattle.rules.specs.State.{Message, isNamed, sameMessage, sameQueue}
 use Rattle.rules.specs.Sound.{distinct}

@@ -36,7 +36,7 @@ use Rattle.demands.proofs.Event.{Forward, low}
 use Rattle.demands.proofs.EventSound.{had-undone, sound-undone}
 use Rattle.demands.proofs.Removal.{Back, halt, took, back-under, sound-back, in-level, level-in, removes-run, removes-one, greedy, counted, total}
 use Rattle.demands.proofs.Cut.{dependents-up, upto, cut-is, cut-below, cut-closed}
-use Rattle.demands.proofs.Rollback.{cut-removes, newest-low, Outcome, removed, stands, undo-outcome, rollback-is, rollback-one}
+use Rattle.demands.proofs.Rollback.{cut-removes, newest-low, Outcome, removed, stands, undo-outcome, rollback-is}
 use Rattle.demands.proofs.Never.{Ahead, start, went, ahead-reached, never}
 
 -- ---- the cut
