@@ -12,7 +12,8 @@ use Rattle.lists.proofs.Tests.{eqb-true, eqb-of, true-or-false, true-not-false,
 use Rattle.rules.specs.State.{Sizes}
 use Rattle.store.specs.Layout.{slotHead, kindRec, Slot}
 use Rattle.slots.specs.SoundTests.{kindWord, numberWord, namesIn}
-use Rattle.soundness.specs.MessageTests.{begins, leftBegins, flowsOn}
+use Rattle.prefixes.specs.Prefixes.{begins, leftBegins}
+use Rattle.soundness.specs.MessageTests.{flowsOn}
 use Rattle.store.proofs.Reading.{readSlot}
 use Rattle.store.proofs.SoundSlots.{Begins, leftNames, SlotFlows}
 

@@ -7,6 +7,7 @@ use mathlib.Core.List.{List, [], _∷_, _++_}
 use lib.Dec.{eqb, ltb}
 use lib.ListN.{take, drop, getD, set}
 use Rattle.lists.specs.Lists.{All, chop}
+use Rattle.prefixes.specs.Prefixes.{leftBegins}
 use Rattle.store.specs.Layout.{slotHead, nameBase, kindRec}
 use Rattle.slots.specs.SoundTests.{kindWord, numberWord, queueWord, namesIn, NamesFit, Block, andThen, runAll}
 
@@ -51,16 +52,6 @@ arriveFrom words size count places entries place [] targets = some targets
 arriveFrom words size count places entries place (b ∷ bs) targets = andThen (arrivePlace words size count places entries place b targets) (arriveFrom words size count places entries (place + 1) bs)
 
 -- ---- flows
-
--- a list of words begins with another
-unfoldable pub begins : List ℕ → List ℕ → Bool
-begins [] ys = true
-begins (x ∷ xs) [] = false
-begins (x ∷ xs) (y ∷ ys) = eqb x y && begins xs ys
-
--- a queue without the message at a place is a prefix of another
-unfoldable pub leftBegins : ℕ → List ℕ → List ℕ → Bool
-leftBegins taken before after = begins (take taken before ++ drop (suc taken) before) after
 
 -- what the last rec left, the slots of entries after it, and the present queue
 unfoldable pub flowsOn : ℕ → ℕ → List ℕ → List (List ℕ) → List ℕ → Bool

@@ -1,4 +1,5 @@
 // Flows: what a rec left is a prefix of the queue before the next rec, or of the present one.
+use prefixes::prefixes::left_begins;
 use slots::blocks::Sizes;
 use store::layout::REC;
 use store::layout::SLOT_HEAD;
@@ -11,37 +12,7 @@ ghost use Prim.Native.Nat.{_≤_, _*_};
 ghost use lib.ListN.{length, drop};
 ghost use Rattle.lists.specs.Lists.{All, chop};
 ghost use Rattle.slots.specs.SoundTests.{NamesFit, Slots, Block, namesIn, everyOf};
-ghost use Rattle.soundness.specs.MessageTests.{begins as beginsWith, leftBegins, flowsOn, placeFlows};
-
-// Whether a list of words begins with another.
-fn begins(front: &[u32], whole: &[u32]) -> bool
-    ensures { λ r. ⌜ r ≡ beginsWith (now (front .entry)) (now (whole .entry)) ⌝ }
-{
-    if whole.len() < front.len() {
-        return false;
-    }
-    let mut i = 0;
-    while i < front.len() {
-        if front[i] != whole[i] {
-            return false;
-        }
-        i += 1;
-    }
-    true
-}
-
-// Whether a queue without the message at a place is a prefix of another; before the first rec the queue is empty.
-fn left_begins(before: &[u32], taken: usize, after: &[u32]) -> bool
-    ensures { λ r. ⌜ r ≡ leftBegins taken (now (before .entry)) (now (after .entry)) ⌝ }
-{
-    if before.len() <= taken {
-        return begins(before, after);
-    }
-    if !begins(&before[..taken], after) {
-        return false;
-    }
-    begins(&before[taken + 1..], &after[taken..])
-}
+ghost use Rattle.soundness.specs.MessageTests.{flowsOn, placeFlows};
 
 // The recs among the entries of a place, oldest first, and the present queue after them.
 fn place_flows(block: &[u32], sizes: Sizes) -> bool

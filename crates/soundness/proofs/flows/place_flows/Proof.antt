@@ -9,7 +9,8 @@ use borrow.Author.Needs.{needs}
 use Rattle.lists.proofs.Blocks.{chop}
 use Rattle.store.specs.Layout.{slotHead}
 use Rattle.slots.specs.SoundTests.{Slots, namesIn}
-use Rattle.soundness.specs.MessageTests.{leftBegins, flowsOn}
+use Rattle.prefixes.specs.Prefixes.{leftBegins}
+use Rattle.soundness.specs.MessageTests.{flowsOn}
 use Rattle.soundness.proofs.FlowTest.{going-rec, going-other, going-breaks, going-ends, present-names}
 use Rattle.slots.proofs.SoundTestWalk.{behind, behind-short, slots-behind, slot-in, names-in, slots-next}
 use Rattle.soundness.proofs.flows.place_flows.Statement.{statement}

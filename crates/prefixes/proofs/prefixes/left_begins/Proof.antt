@@ -3,9 +3,9 @@ use borrow.Author.Needs.{needs}
 use mathlib.Core.Path.{sym}
 use native.Mathlib.Omega.{arith}
 use lib.Seq.{length-take-le}
-use Rattle.soundness.proofs.FlowTest.{left-outside, left-within, left-breaks, left-rest}
-use Rattle.soundness.proofs.flows.left_begins.Statement.{statement}
-use Rattle.soundness.proofs.flows.left_begins.Tie as tie
+use Rattle.prefixes.proofs.PrefixLaws.{left-outside, left-within, left-breaks, left-rest}
+use Rattle.prefixes.proofs.prefixes.left_begins.Statement.{statement}
+use Rattle.prefixes.proofs.prefixes.left_begins.Tie as tie
 
 begins-requires : tie.Need-begins-requires
 begins-requires c κs = search needs

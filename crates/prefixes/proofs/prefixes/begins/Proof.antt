@@ -4,9 +4,9 @@ use mathlib.Core.Path.{refl}
 use native.Mathlib.Omega.{arith}
 use lib.ListN.{length}
 use borrow.Author.Needs.{needs}
-use Rattle.soundness.proofs.FlowTest.{Comparing, compare-short, compare-next, compare-breaks, compare-ends}
-use Rattle.soundness.proofs.flows.begins.Statement.{statement}
-use Rattle.soundness.proofs.flows.begins.Tie as tie
+use Rattle.prefixes.proofs.PrefixLaws.{Comparing, compare-short, compare-next, compare-breaks, compare-ends}
+use Rattle.prefixes.proofs.prefixes.begins.Statement.{statement}
+use Rattle.prefixes.proofs.prefixes.begins.Tie as tie
 
 abbrev Inv-loop : tie.InvT-loop
 Inv-loop front whole i₀ i = (i ≤ length front) × (length front ≤ length whole) × Comparing front whole i

@@ -1,0 +1,2 @@
+// Whether words begin with others.
+pub mod prefixes;
