@@ -1,5 +1,5 @@
 # What there is to do here. Each target needs the Rattle toolchain (`rt`); the viewer a C compiler besides, `outside` Rust's cargo.
-.PHONY: help run test library viewer viewer-test outside speed
+.PHONY: help run test library viewer viewer-test outside speed stack
 
 help:
 	@echo 'make run          run the program bench on its example'
@@ -8,6 +8,7 @@ help:
 	@echo 'make viewer-test  run the viewer on the tour and the corpus under the address and undefined-behaviour sanitizers'
 	@echo 'make outside      hold the proved library against an independent implementation in Rust'
 	@echo 'make speed        time each call against that implementation and a plain pass'
+	@echo 'make stack        measure the stack and the time of a step that compares two large values, and of others'
 
 run:
 	@tools/run bench_main
@@ -30,3 +31,7 @@ outside: library
 
 speed: library
 	cd outside && cargo run --release --quiet -- speed
+
+stack: library
+	$(CC) -std=c11 -O2 -Wall -Wextra -o target/stack outside/stack.c target/staticlib/libbench.a
+	@target/stack

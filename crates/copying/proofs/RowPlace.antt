@@ -1,5 +1,5 @@
--- Laws of the working place in a row: the steps of `find`.
-use Prim.Native.Nat.{ℕ, zero, suc, _+_, _-_, _<_, _≤_}
+-- Laws of the working place in a row: the turns of `find`.
+use Prim.Native.Nat.{ℕ, zero, suc, _+_, _*_, _-_, _<_, _≤_}
 use mathlib.Core.Path.{_≡_, refl, sym, ap, ap₂, _∙_}
 use mathlib.Core.Logic.{_⊎_, inl, inr}
 use mathlib.Core.Bool.{Bool, true, false, _&&_}
@@ -15,6 +15,8 @@ use Rattle.term.proofs.TreeLaws.{_andAll_, words-all, count-all, whole-all}
 use Rattle.term.specs.Value.{isValue, areValues}
 use Rattle.machine.specs.Place.{entered}
 use Rattle.machine.proofs.PlaceLaws.{entered-receive, entered-case, entered-let, entered-other}
+use Rattle.rows.specs.Kinds.{ChildCount}
+use Rattle.row_laws.specs.Bounds.{mostChildren, pendingLimit}
 use Rattle.copying.specs.Places.{placeOf, placeAmong, EntersOf, Finds}
 use Rattle.row_laws.proofs.RowTerms.{arity-case, arity-other, node-at, integer-at, not-integer-at, some-words}
 
@@ -212,3 +214,71 @@ module _ (l : List ℕ) (at p here : ℕ) (nz : ¬ (p ≡ 0)) where
           ∙ en .same-place k us hd at (at + 1)
           ∙ ap (λ (j : ℕ). placeAmong us (entered j us) at (at + 1)) (o .tag-is)
           ∙ sym (place-in (node tag n k us) ts p here at nz (no-value-node tag n k us tv))
+
+-- ---- the turns over values: what is found among the terms left is what is found among all
+pub record Seeks (l : List ℕ) (at p x left : ℕ) : Type 0 where
+  pub goes : (here r : ℕ) → Finds l x left here r → Finds l at p here r
+  pub onward : at ≤ x
+  pub within : x ≤ length l
+  pub few : left + mostChildren * (length l - x) < pendingLimit
+
+pub seeks-start : (l : List ℕ) (at p : ℕ) → (at ≤ length l) × (p + mostChildren * (length l - at) < pendingLimit) → Seeks l at p at p
+seeks-start l at p h = record { goes = λ here r s. s; onward = omega arith; within = h .0; few = h .1 }
+
+-- what `past_values` promises: at r stands the first word that is no value's, or none does
+abbrev pub Works : List ℕ → ℕ → ℕ → ℕ → Type 0
+Works l at p r =
+    (at ≤ r) × ((here : ℕ) → length l ≤ r → Finds l at p here here)
+    × ((here c e : ℕ) → r < length l → EntersOf (getD l r 0) c → Finds l (r + 1) c r e → Finds l at p here e)
+
+module _ (l : List ℕ) (at p x left : ℕ) (inv : Seeks l at p x left) where
+  none-works : ((here : ℕ) → Finds l x left here here) → Works l at p (length l)
+  none-works f = (omega (arith, inv .onward, inv .within), λ here h. inv .goes here here (f here), λ here c e h. absurd (omega arith))
+
+  pub seeks-none : left ≤ 0 → Works l at p (length l)
+  seeks-none z = none-works (λ here. find-none l x left here (omega arith))
+
+  module _ (more : 0 < left) where
+    some : ¬ (left ≡ 0)
+    some z = omega arith
+
+    pub seeks-past : length l ≤ x → Works l at p (length l)
+    seeks-past h = none-works (λ here. find-past l x left here some here h)
+
+    module _ (lt : x < length l) (g : ℕ) (eg : g ≡ tagOf (getD l x 0)) where
+      module _ (i : g ≡ tagInteger) where
+        pub seeks-short : length l - x < 2 → Works l at p (length l)
+        seeks-short h = none-works (λ here. find-short l x left here some g eg here i h)
+
+        pub seeks-integer : 2 ≤ length l - x → Seeks l at p (x + 2) (left - 1)
+        seeks-integer two =
+            record {
+              goes = λ here r s. inv .goes here r (find-integer l x left here some g eg r i s);
+              onward = omega (arith, inv .onward);
+              within = omega arith;
+              few = omega (arith, inv .few);
+            }
+
+      module _ (i : ¬ (g ≡ tagInteger)) (v : Bool) (ev : v ≡ (leb tagAtom g && leb g tagTuple)) where
+        pub seeks-work : v ≡ false → Works l at p x
+        seeks-work n = (inv .onward, λ here h. absurd (omega arith), λ here c e h en s. inv .goes here e (find-in l x left here some g eg i v ev n c e en s))
+
+        pub seeks-value : v ≡ true → (c : ℕ) → ChildCount (getD l x 0) c → Seeks l at p (x + 1) (left - 1 + c)
+        seeks-value y c hc =
+            record {
+              goes = λ here r s. inv .goes here r (find-value l x left here some g eg i v ev y c r (hc .is) s);
+              onward = omega (arith, inv .onward);
+              within = omega arith;
+              few = omega (arith, inv .few, hc .few);
+            }
+
+-- ---- and `find`, from there
+module _ (l : List ℕ) (at p r : ℕ) (w : Works l at p r) where
+  pub found-none : (here : ℕ) → length l ≤ r → Finds l at p here here
+  found-none here h = w .1 here h
+
+  pub found-in : r < length l → (c : ℕ) → EntersOf (getD l r 0) c → (here e : ℕ) → Finds l (r + 1) c r e → Finds l at p here e
+  found-in lt c en here e s = w .2 here c e lt en s
+
+  pub found-few : r < length l → (c : ℕ) → EntersOf (getD l r 0) c → p + mostChildren * (length l - at) < pendingLimit → c + mostChildren * (length l - (r + 1)) < pendingLimit
+  found-few lt c en h = omega (arith, w .0, en .few)

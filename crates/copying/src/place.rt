@@ -10,9 +10,9 @@ use rows::words::n;
 use rows::words::tag;
 ghost use mathlib.Core.Path.{_≡_};
 ghost use mathlib.Core.Bool.{_&&_};
-ghost use Prim.Native.Nat.{_<_, _≤_, _+_, _*_, _-_};
+ghost use Prim.Native.Nat.{ℕ, _<_, _≤_, _+_, _*_, _-_};
 ghost use lib.Dec.{leb};
-ghost use lib.ListN.{length};
+ghost use lib.ListN.{length, getD};
 ghost use Rattle.term.specs.Words.{tagAtom, tagTuple};
 ghost use Rattle.row_laws.specs.Bounds.{mostChildren, pendingLimit};
 ghost use Rattle.copying.specs.Places.{EntersOf, Finds};
@@ -44,28 +44,49 @@ fn entered(w: u32) -> usize
     children(w)
 }
 
+// Where the first word stands that is no value's, of the `pending` terms at `at`; the row's end where all are values, or where words run
+// out, as they never do in whole terms.
+fn past_values(src: &[u32], at: usize, pending: usize) -> usize
+    requires { ⌜ (at ≤ length (now src)) × (pending + mostChildren * (length (now src) - at) < pendingLimit) ⌝ }
+    ensures { λ r. ⌜ (at ≤ r)
+        × ((here : ℕ) → length (now (src .entry)) ≤ r → Finds (now (src .entry)) at pending here here)
+        × ((here c e : ℕ) → r < length (now (src .entry)) → EntersOf (getD (now (src .entry)) r 0) c
+        → Finds (now (src .entry)) (r + 1) c r e → Finds (now (src .entry)) at pending here e) ⌝ }
+{
+    let mut x = at;
+    let mut left = pending;
+    while 0 < left {
+        if src.len() <= x {
+            return src.len();
+        }
+        let w = src[x];
+        let t = tag(w);
+        if t == INTEGER {
+            if src.len() - x < 2 {
+                return src.len();
+            }
+            x += 2;
+            left -= 1;
+            continue;
+        }
+        if !of_value(t) {
+            return x;
+        }
+        x += 1;
+        left = left - 1 + children(w);
+    }
+    src.len()
+}
+
 // Where the first of the `pending` terms at `at` that is no value is worked on; `here` where all are values,
 // or where words run out, as they never do in whole terms.
 pub fn find(src: &[u32], at: usize, pending: usize, here: usize) -> usize
     requires { ⌜ (at ≤ length (now src)) × (pending + mostChildren * (length (now src) - at) < pendingLimit) ⌝ }
     ensures { λ r. ⌜ Finds (now (src .entry)) at pending here r ⌝ }
 {
-    if pending == 0 {
+    let x = past_values(src, at, pending);
+    if src.len() <= x {
         return here;
     }
-    if src.len() <= at {
-        return here;
-    }
-    let w = src[at];
-    let t = tag(w);
-    if t == INTEGER {
-        if src.len() - at < 2 {
-            return here;
-        }
-        return find(src, at + 2, pending - 1, here);
-    }
-    if of_value(t) {
-        return find(src, at + 1, pending - 1 + children(w), here);
-    }
-    find(src, at + 1, entered(w), at)
+    find(src, x + 1, entered(src[x]), x)
 }

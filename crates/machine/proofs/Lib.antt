@@ -14,3 +14,4 @@ pub mod ControlLaws
 pub mod ModuleLaws
 pub mod StepLaws
 pub mod WorkLaws
+pub mod SameRows

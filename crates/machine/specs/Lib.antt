@@ -10,3 +10,4 @@ pub mod Work
 pub mod Opened
 pub mod Laws
 pub mod Cases
+pub mod SameRows

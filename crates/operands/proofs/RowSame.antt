@@ -1,5 +1,5 @@
--- Laws of equal terms in rows: the steps of `same`.
-use Prim.Native.Nat.{ℕ, _+_, _-_, _<_, _≤_}
+-- Laws of equal terms in rows: the turns of `same`.
+use Prim.Native.Nat.{ℕ, _+_, _*_, _-_, _<_, _≤_}
 use mathlib.Core.Path.{_≡_, refl, sym, ap, ap₂, _∙_}
 use mathlib.Core.Bool.{Bool, true, false, _&&_}
 use mathlib.Core.List.{List}
@@ -13,6 +13,8 @@ use Rattle.term.specs.Table.{arity}
 use Rattle.term.specs.Tree.{Terms, int, node, end, _then_, count, Whole, WholeAll}
 use Rattle.term.proofs.TreeLaws.{_andAll_, whole-all}
 use Rattle.machine.specs.Value.{sameTerm, sameTerms}
+use Rattle.rows.specs.Kinds.{ChildCount}
+use Rattle.row_laws.specs.Bounds.{mostChildren, pendingLimit}
 use Rattle.operands.specs.Sames.{Sames}
 use Rattle.row_laws.proofs.RowTerms.{node-at, integer-at, not-integer-at, no-count, some-words}
 
@@ -129,3 +131,52 @@ module _ (a : List ℕ) (i : ℕ) (b : List ℕ) (j p : ℕ) (nz : ¬ (p ≡ 0))
         let z : count vs ≡ count vs′ = h .0 .0 .all-children ∙ ap₂ arity et en ∙ sym (h′ .0 .0 .all-children) in
         ih (vs andAll ts) (vs′ andAll us) rest rest′ (whole-all vs ts (h .0 .1) (h .1)) (whole-all vs′ us (h′ .0 .1) (h′ .1)) (o .count-is) (o′ .count-is) (o .on) (o′ .on)
         ∙ same-all vs ts vs′ us z ∙ ap (λ (q : Bool). q && sameTerms ts us) (sym (same-heads tag n k vs tag′ n′ k′ vs′ et en ek))
+
+-- ---- the turns: whether the terms left are the same is whether all are
+pub record Goes (a : List ℕ) (i : ℕ) (b : List ℕ) (j p x y left : ℕ) : Type 0 where
+  pub goes : (r : Bool) → Sames a x b y left r → Sames a i b j p r
+  pub within : x ≤ length a
+  pub few : left + mostChildren * (length a - x) < pendingLimit
+
+pub goes-start : (a : List ℕ) (i : ℕ) (b : List ℕ) (j p : ℕ) → (i ≤ length a) × (p + mostChildren * (length a - i) < pendingLimit) → Goes a i b j p i j p
+goes-start a i b j p h = record { goes = λ r s. s; within = h .0; few = h .1 }
+
+module _ (a : List ℕ) (i : ℕ) (b : List ℕ) (j p x y left : ℕ) (inv : Goes a i b j p x y left) where
+  pub goes-none : left ≤ 0 → Sames a i b j p true
+  goes-none z = inv .goes true (same-none a x b y left (omega arith))
+
+  module _ (more : 0 < left) where
+    some : ¬ (left ≡ 0)
+    some z = omega arith
+
+    pub goes-past : length a ≤ x → Sames a i b j p false
+    goes-past h = inv .goes false (same-past a x b y left some false h)
+
+    pub goes-past-other : length b ≤ y → Sames a i b j p false
+    goes-past-other h = inv .goes false (same-past-other a x b y left some false h)
+
+    pub goes-differ : ¬ (getD a x 0 ≡ getD b y 0) → Sames a i b j p false
+    goes-differ d = inv .goes false (same-differ a x b y left some d)
+
+    module _ (same : getD a x 0 ≡ getD b y 0) (g : ℕ) (eg : g ≡ tagOf (getD a x 0)) where
+      module _ (e : g ≡ tagInteger) where
+        pub goes-cut : length a - x < 2 → Sames a i b j p false
+        goes-cut h = inv .goes false (same-cut a x b y left some same g eg e false h)
+
+        pub goes-cut-other : length b - y < 2 → Sames a i b j p false
+        goes-cut-other h = inv .goes false (same-cut-other a x b y left some same g eg e false h)
+
+        pub goes-integers-differ : ¬ (getD a (x + 1) 0 ≡ getD b (y + 1) 0) → Sames a i b j p false
+        goes-integers-differ d = inv .goes false (same-integers-differ a x b y left some same g eg e d)
+
+        pub goes-integers : 2 ≤ length a - x → getD a (x + 1) 0 ≡ getD b (y + 1) 0 → Goes a i b j p (x + 2) (y + 2) (left - 1)
+        goes-integers two d =
+            record { goes = λ r s. inv .goes r (same-integers a x b y left some same g eg e d r s); within = omega arith; few = omega (arith, inv .few) }
+
+      pub goes-nodes : x < length a → ¬ (g ≡ tagInteger) → (c : ℕ) → ChildCount (getD a x 0) c → Goes a i b j p (x + 1) (y + 1) (left - 1 + c)
+      goes-nodes lt e c hc =
+          record {
+            goes = λ r s. inv .goes r (same-nodes a x b y left some same g eg e c r (hc .is) s);
+            within = omega arith;
+            few = omega (arith, inv .few, hc .few);
+          }

@@ -17,18 +17,23 @@ pub struct Ahead {
 pub fn skip(row: &[u32], at: usize, owed: usize) -> usize
     ensures { λ r. ⌜ r ≡ at + passed (drop at (now (row .entry))) owed ⌝ }
 {
-    if owed == 0 {
-        return at;
+    let mut x = at;
+    let mut left = owed;
+    while 0 < left {
+        if row.len() <= x {
+            return x;
+        }
+        if row.len() - x <= left {
+            return row.len();
+        }
+        let w = row[x];
+        if tag(w) == INTEGER {
+            x += 2;
+            left -= 1;
+            continue;
+        }
+        x += 1;
+        left = left - 1 + children(w);
     }
-    if row.len() <= at {
-        return at;
-    }
-    if row.len() - at <= owed {
-        return row.len();
-    }
-    let w = row[at];
-    if tag(w) == INTEGER {
-        return skip(row, at + 2, owed - 1);
-    }
-    skip(row, at + 1, owed - 1 + children(w))
+    x
 }

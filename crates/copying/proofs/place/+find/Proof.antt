@@ -7,13 +7,11 @@ use Rattle.copying.proofs.place.find.Reads as find
 use Rattle.copying.proofs.place.find.Kinds as find-kinds
 use Rattle.copying.proofs.place.+find.Lts-find as find-lts
 use Rattle.copying.proofs.place.entered.Reads as entered-reads
-use Rattle.copying.proofs.place.of_value.Reads as of-value-reads
-use Rattle.rows.proofs.tables.children.Reads as children-reads
-use Rattle.rows.proofs.words.tag.Reads as tag-reads
+use Rattle.copying.proofs.place.past_values.Reads as past-values-reads
 use Rattle.copying.proofs.place.+find.{statement}
 use Rattle.copying.proofs.place.+find.Tie.{close}
 use lib.ListN.{length}
-use Rattle.copying.proofs.RowPlace.{find-none, find-past, find-short, find-integer, find-value, find-in}
+use Rattle.copying.proofs.RowPlace.{found-none, found-in, found-few}
 
 abbrev μ-find : Measures 1 find-kinds.ps ℕ
 μ-find κs a = length (a .0 .now) - a .1 .0
@@ -25,29 +23,15 @@ abbrev find-below : ℕ → In 1 find-kinds.ps
 find-below t = and 1 find-kinds.ps (falls 1 find-kinds.ps _<_ μ-find t) find.Pre
 
 abbrev calls : ℕ → find-lts.Claims
-calls t = (tag-reads.Asked, tag-reads.Learnt, find-below t, find.Post, of-value-reads.Asked, of-value-reads.Learnt, children-reads.Asked, children-reads.Learnt, entered-reads.Asked, entered-reads.Learnt)
+calls t = (past-values-reads.Asked, past-values-reads.Learnt, entered-reads.Asked, entered-reads.Learnt, find-below t, find.Post)
 
 pub +find-spec : {M : Type 1} → statement M
 +find-spec = close μ-find λ t. find-lts.spec (calls t) (find-at t) find.Post
-    (λ c. search find-none)
-    (λ c. search find-past)
+    (λ c κs. search needs)
+    (λ c. search found-none)
+    (λ c. search needs)
     (λ c. search needs)
     (λ c. search needs)
     (λ c κs. search needs)
-    (λ c. search needs)
-    (λ c. search find-short)
-    (λ c. search needs)
-    (λ c. search needs)
-    (λ c κs. search needs)
-    (λ c. search find-integer)
-    (λ c κs. search needs)
-    (λ c. search needs)
-    (λ c. search needs)
-    (λ c κs. search needs)
-    (λ c. search needs)
-    (λ c κs. search needs)
-    (λ c. search find-value)
-    (λ c. search needs)
-    (λ c κs. search needs)
-    (λ c κs. search needs)
-    (λ c. search find-in)
+    (λ c κs. search (needs, found-few))
+    (λ c. search found-in)
