@@ -7,7 +7,8 @@
  *
  * What the caller owes, since C does not check it: a pointer is valid and aligned for its whole count, never NULL (for a count of 0 any aligned
  * address that isn't NULL will do), and no slice that a call writes overlaps another slice of the same call. Nothing else is asked, but for the
- * stack: bench_rollback, and bench_line for a rollback, take some 141 KiB of it for their arrays alone. */
+ * stack: bench_rollback, and bench_line for a rollback, take some 141 KiB of it for their arrays alone; a step was measured at 16 to 68 KiB, by how
+ * its control is nested (docs/SPEED.md). */
 #ifndef BENCH_H
 #define BENCH_H
 
