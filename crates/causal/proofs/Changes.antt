@@ -63,7 +63,7 @@ module _ {State Command : Type 0} {Step : State → Command → State → Type 0
 
   pub turns_back : {s e : State} {ts us : List Command} → Run Step s ts e → Turns Step reverse Independent s ts us → Turns Step reverse Independent s us ts
   turns_back r unchanged = unchanged
-  turns_back {e} r (changed c (_, q) x) = turns_join (turns_back q x) (changed (change_back c) (e, r) unchanged)
+  turns_back {e} r (changed c (m, q) x) = turns_join (turns_back {e = m} q x) (changed (change_back c) (e, r) unchanged)
 
   pub turns_append : {s e : State} {ts us : List Command} (vs : List Command) → Good s → Run Step s (ts ++ vs) e
       → Turns Step reverse Independent s ts us → Turns Step reverse Independent s (ts ++ vs) (us ++ vs)

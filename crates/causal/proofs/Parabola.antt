@@ -53,7 +53,7 @@ module _ {State Command : Type 0} {Step : State → Command → State → Type 0
         record { down = us; up = []; lowest = e; backward_part = rest; forward_part = stay; turns = turns; not_longer = omega arith }
     | no other ↦
         let (b, first, second, different, independent) = overtake good p f q g other in
-        let rest = push (laws.good_step good first) second f r in
+        let rest = push {s = b} (laws.good_step good first) second f r in
         record {
           down = u ∷ rest.down;
           up = rest.up;

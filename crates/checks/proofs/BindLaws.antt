@@ -18,7 +18,7 @@ use Rattle.rows.specs.Kinds.{ChildCount}
 use Rattle.checks.specs.declared.binding.Gone.{Gone}
 use Rattle.checks.specs.declared.binding.Gone.TheVariants.{Past, Broke}
 use Rattle.checks.specs.Walking.{Marks, Stands, Agrees, Onward, Binds, variables}
-use Rattle.term.proofs.TreeLaws.{◌andAll◌, words_all, count_all}
+use Rattle.term.proofs.TreeLaws.{◌and_all◌, words_all, count_all}
 use Rattle.term.proofs.ShapeLaws.{fits_parts}
 use Rattle.checks.proofs.MarkLaws.{mark_more, variable_k}
 use Rattle.checks.proofs.StandLaws.{NodeHere, stands_within, stands_none, stands_second, stands_integer, stands_node}
@@ -31,7 +31,7 @@ then_then (passes at scope checks) f g h e = e at scope checks
 
 pub binds_all_lem : (ts us : Terms) (scope : List ℕ) (at : ℕ) (checks : List ℕ)
     → binds_all scope (ts and_all us) at checks ≡ and_then (binds_all scope ts at checks) (λ at' scope' checks'. binds_all scope' us at' checks')
-unfolding binds_all and_then ◌andAll◌
+unfolding binds_all and_then ◌and_all◌
 binds_all_lem end us scope at checks = refl
 binds_all_lem (t then ts) us scope at checks =
     then_then (binds scope t at checks) (λ at' scope' checks'. binds_all scope' (ts and_all us) at' checks') (λ at' scope' checks'. binds_all scope' ts at' checks') (λ at' scope' checks'. binds_all scope' us at' checks')
@@ -126,7 +126,7 @@ unfolding row_of table arity child_count
 variable_leaf l at owed ts h e = none_counted h.children (let n : n_of (get_or l at 0) ≤ 0 = rw e at (fits_parts h.places h.spot (get_or l at 0) h.fit).greatest_n in omega (arith, rw e at h.child_count_lem))
 
 leaf_stop : (at : ℕ) (us ts : Terms) → us ≡ end → at + 1 + length (words_of (us and_all ts)) ≡ at + 1 + length (words_of ts)
-unfolding ◌andAll◌
+unfolding ◌and_all◌
 leaf_stop at us ts e = rw e
 
 leaf_next : (l : List ℕ) (at owed : ℕ) (ts : Terms) (h : NodeHere l at owed ts) → h.children ≡ end → Stands l (at + 1) (owed - 1) h.others

@@ -24,7 +24,7 @@ use Rattle.shape.specs.Reading.{onward, Reads}
 use Rattle.checks.specs.Checking.{fail_of, ReadFunctions}
 use Rattle.term.proofs.WordLaws.{n_word}
 use Rattle.term.proofs.RowLaws.{drop_head, here, count_within}
-use Rattle.term.proofs.TreeLaws.{length_all, ◌andAll◌, words_all, count_all, all_end}
+use Rattle.term.proofs.TreeLaws.{length_all, ◌and_all◌, words_all, count_all, all_end}
 use Rattle.term.proofs.ShapeLaws.{shape_terms, shape_misfit, Functions as ShapedFunctions, shaped_module}
 use Rattle.shape.proofs.ReadingLaws.{further_ends}
 
@@ -79,7 +79,7 @@ unfolding shape wanted
 begins l at h = rw (drop_head l at h)
 
 pub so_far_start : (l counts : List ℕ) → ¬ (length l ≡ 0) → SoFar l counts 0 0
-unfolding module_shape ◌andAll◌ words_of count arities_of
+unfolding module_shape ◌and_all◌ words_of count arities_of
 so_far_start l counts ne =
     record {
       few = omega arith;
@@ -88,12 +88,12 @@ so_far_start l counts ne =
     }
 
 all_assoc : (ts us vs : Terms) → (ts and_all us) and_all vs ≡ ts and_all (us and_all vs)
-unfolding ◌andAll◌
+unfolding ◌and_all◌
 all_assoc end us vs = refl
 all_assoc (t then ts) us vs = ap (λ (rest : Terms). t then rest) (all_assoc ts us vs)
 
 arities_last : (ts : Terms) (t : Term) → arities_of (ts and_all (t then end)) ≡ arities_of ts ++ (parameters_of t ∷ [])
-unfolding ◌andAll◌ arities_of
+unfolding ◌and_all◌ arities_of
 arities_last end t = refl
 arities_last (u then ts) t = ap (λ (rest : List ℕ). parameters_of u ∷ rest) (arities_last ts t)
 
@@ -112,7 +112,7 @@ no_words (t then ts) e = absurd (omega (arith, count_within (t then ts)))
 next_counted : (l counts : List ℕ) (at number : ℕ) (ts done left : Terms) (many : ℕ) → ts ≡ done and_all left → FitAll 0 left (replicate many spot_function) → at ≡ length (words_of done) → number ≡ count done
     → take number counts ≡ arities_of done → drop at l ≡ words_of left → at < length l → (r : Reading) → Reads 0 l at spot_function 1 r → (a : ℕ) → r ≡ Ends a → number < length counts → (n : ℕ) → n ≡ n_of (get_or l at 0)
     → Counted (set counts number n) a (number + 1) ts
-unfolding FitAll Fit words_of words count ◌andAll◌ parameters_of
+unfolding FitAll Fit words_of words count ◌and_all◌ parameters_of
 next_counted l counts at number ts done end many is fit at_is number_is noted row lt r h a e room n en =
     let z : ◌≡◌ {A = ℕ} 0 1 = cc (row, drop_head l at lt) in absurd (omega arith)
 next_counted l counts at number ts done (t then vs) zero is fit at_is number_is noted row lt r h a e room n en = absurd fit

@@ -11,7 +11,7 @@ use Rattle.term.specs.Tree.{Terms, int, node, end, ◌then◌, words, words_of, 
 use Rattle.term.specs.Fit.{Fit, FitAll}
 use Rattle.checks.specs.Walking.{Stands}
 use Rattle.term.proofs.WordLaws.{tag_word, n_word, k_word}
-use Rattle.term.proofs.TreeLaws.{◌andAll◌, words_all}
+use Rattle.term.proofs.TreeLaws.{◌and_all◌, words_all}
 use Rattle.term.proofs.RowLaws.{here, drop_past, count_within}
 
 -- every term has a word
@@ -27,7 +27,7 @@ pub record Both (places : ℕ) (ts us : Terms) : Type 0 where
   pub fit' : FitAll places us spots'
 
 pub fit_both : (places : ℕ) (ts us : Terms) (spots : List ℕ) → FitAll places (ts and_all us) spots → Both places ts us
-unfolding FitAll ◌andAll◌
+unfolding FitAll ◌and_all◌
 fit_both places end us spots h = record { spots = []; spots' = spots; fit = tt; fit' = h }
 fit_both places (t then ts) us [] h = absurd h
 fit_both places (t then ts) us (s ∷ spots) h =
@@ -35,7 +35,7 @@ fit_both places (t then ts) us (s ∷ spots) h =
     record { spots = s ∷ r.spots; spots' = r.spots'; fit = (h.0, r.fit); fit' = r.fit' }
 
 pub fit_join : (places : ℕ) (ts us : Terms) (spots spots' : List ℕ) → FitAll places ts spots → FitAll places us spots' → FitAll places (ts and_all us) (spots ++ spots')
-unfolding FitAll ◌andAll◌
+unfolding FitAll ◌and_all◌
 fit_join places end us [] spots' h g = g
 fit_join places end us (s ∷ spots) spots' h g = absurd h
 fit_join places (t then ts) us [] spots' h g = absurd h

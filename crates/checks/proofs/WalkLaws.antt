@@ -17,7 +17,7 @@ use Rattle.rows.specs.Kinds.{ChildCount}
 use Rattle.checks.specs.declared.binding.Gone.{Gone}
 use Rattle.checks.specs.declared.binding.Gone.TheVariants.{Past, Broke}
 use Rattle.checks.specs.Walking.{Marks, Stands, Agrees, Onward, Binds, Rules, Keeps, KeepsBoth, variables, check_numbers}
-use Rattle.term.proofs.TreeLaws.{length_all, ◌andAll◌}
+use Rattle.term.proofs.TreeLaws.{length_all, ◌and_all◌}
 use Rattle.term.proofs.ShapeLaws.{fits_parts}
 use Rattle.checks.proofs.StandLaws.{NodeHere, stands_none, stands_first, stands_second, stands_integer, stands_node}
 use Rattle.checks.proofs.BindLaws.{then_then, onward_from, agrees_with, none_past, none_short, integer_stop, node_stop, node_next}
@@ -49,7 +49,7 @@ agrees_past stop left (passes b scope checks) (Past c) a g e =
 module _ (arities : List ℕ) (unique : Bool) where
   pub keeps_all_lem : (ts us : Terms) (scope : List ℕ) (at : ℕ) (checks : List ℕ)
       → keeps_all arities unique scope (ts and_all us) at checks ≡ and_then (keeps_all arities unique scope ts at checks) (λ at' scope' checks'. keeps_all arities unique scope us at' checks')
-  unfolding keeps_all and_then ◌andAll◌
+  unfolding keeps_all and_then ◌and_all◌
   keeps_all_lem end us scope at checks = refl
   keeps_all_lem (t then ts) us scope at checks =
       then_then (keeps arities unique scope t at checks) (λ at' scope' checks'. keeps_all arities unique scope (ts and_all us) at' checks') (λ at' scope' checks'. keeps_all arities unique scope ts at' checks')
@@ -167,7 +167,7 @@ pub record Parts (l : List ℕ) (at owed m : ℕ) (ts : Terms) (head : Term) (ta
   pub stop : at + length (words_of ts) ≡ at + 1 + length (words_of (head then end)) + length (words_of tail) + length (words_of others)
 
 parts : (l : List ℕ) (at owed m : ℕ) (ts : Terms) (h : NodeHere l at owed ts) (p : Split h.children m) → Parts l at owed m ts p.head p.tail h.others
-unfolding ◌andAll◌ count
+unfolding ◌and_all◌ count
 parts l at owed m ts h p =
     let all : Stands l (at + 1) (count (h.children and_all h.others)) ((p.head then end) and_all (p.tail and_all h.others)) =
     subst (λ (v : Terms). Stands l (at + 1) (count (h.children and_all h.others)) (v and_all h.others)) p.is h.after

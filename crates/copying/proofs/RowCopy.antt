@@ -10,7 +10,7 @@ use Rattle.term.specs.Words.{word, tag_of, n_of, integer_word, tag_integer, tag_
 use Rattle.term.specs.Table.{arity}
 use Rattle.term.specs.Tree.{Term, Terms, int, node, end, ◌then◌, words, words_of, count, Head}
 use Rattle.term.proofs.WordLaws.{tag_word, k_word}
-use Rattle.term.proofs.TreeLaws.{◌andAll◌, words_all}
+use Rattle.term.proofs.TreeLaws.{◌and_all◌, words_all}
 use Rattle.machine.specs.Match.{Bindings}
 use Rattle.machine.specs.Bind.{bind, bind_all}
 use Rattle.row_laws.specs.Rows.{Stands, Plain, PlainAll, Bound}
@@ -21,7 +21,7 @@ use Rattle.copying.proofs.RowMatch.{plain_all}
 use Rattle.copying.proofs.RowWrite.{wrote_none, wrote_full, wrote_then, wrote_within, wrote_length}
 
 pub bind_all_lem : (bindings : Bindings) (us ts : Terms) → bind_all bindings (us and_all ts) ≡ bind_all bindings us and_all bind_all bindings ts
-unfolding bind_all ◌andAll◌
+unfolding bind_all ◌and_all◌
 bind_all_lem bindings end ts = refl
 bind_all_lem bindings (u then us) ts = ap (λ (vs : Terms). bind bindings u then vs) (bind_all_lem bindings us ts)
 
@@ -76,7 +76,7 @@ module _ (src : List ℕ) (at p : ℕ) (values env : List ℕ) (to : ℕ) (o : L
 
   module _ (nz : ¬ (p ≡ 0)) (en : ℕ) (ee : en ≡ entry_of env (get_or src at 0)) where
     value_copies : ¬ (en ≡ 0) → (b r : ℕ) (mid new : List ℕ) → CopiedTerm values (en - 1) to o mid b → Copies src (at + 1) (p - 1) values env b mid new r → Copies src at p values env to o new r
-    unfolding Copies count PlainAll Plain Bound ◌andAll◌
+    unfolding Copies count PlainAll Plain Bound ◌and_all◌
     value_copies d b r mid new one ih end rest bindings h s e bound = absurd (omega arith)
     value_copies d b r mid new one ih (int x then ts) rest bindings h s e bound = absurd (d (ee ∙ ap (entry_of env) (integer_at src at x ts rest e).head ∙ entry_integer env))
     value_copies d b r mid new one ih (node tag n k us then ts) rest bindings h s e bound =

@@ -15,7 +15,7 @@ use Rattle.term.specs.Words.{word, tag_of, n_of, k_of, tag_integer, tag_variable
 use Rattle.term.specs.Table.{arity}
 use Rattle.term.specs.Rows.{passed}
 use Rattle.term.specs.Tree.{Term, Terms, int, node, end, ◌then◌, words, words_of, count}
-use Rattle.term.proofs.TreeLaws.{◌andAll◌}
+use Rattle.term.proofs.TreeLaws.{◌and_all◌}
 use Rattle.machine.specs.Match.{Bindings, with, children_of, is_integer, match, match_all}
 use Rattle.row_laws.specs.Rows.{Stands, Plain, PlainAll, Entry, Bound}
 use Rattle.copying.specs.Matching.{Matched, Matches}
@@ -78,7 +78,7 @@ children_other tag n k tag' n' k' vs d = go (ℕ_discrete tag tag') (ℕ_discret
     go (yes a) (yes b) (yes e) = absurd (d (λ i. word (a i) (b i) (e i)))
 
 match_all_lem : (us ps us' vs : Terms) (bindings : Bindings) → count us ≡ count us' → match_all (us and_all ps) (us' and_all vs) bindings ≡ onward (match_all us us' bindings) ps vs
-unfolding match_all ◌andAll◌ count
+unfolding match_all ◌and_all◌ count
 match_all_lem end ps end vs bindings s = refl
 match_all_lem end ps (v then us') vs bindings s = absurd (omega arith)
 match_all_lem (u then us) ps end vs bindings s = absurd (omega arith)
@@ -123,7 +123,7 @@ bound_more values env bindings k a v b h s j = go (ℕ_discrete k j)
     go (no d) = rw (eqb_apart k j d, get_or-set_other env k j (a + 1) 0 (λ e. d (sym e))) (b j)
 
 pub plain_all : (us ts : Terms) → PlainAll us → PlainAll ts → PlainAll (us and_all ts)
-unfolding PlainAll ◌andAll◌
+unfolding PlainAll ◌and_all◌
 plain_all end ts h g = g
 plain_all (u then us) ts h g = (h.0, plain_all us ts h.1 g)
 
@@ -156,7 +156,7 @@ module _ (p : List ℕ) (pa : ℕ) (v : List ℕ) (va m : ℕ) (env : List ℕ) 
           absurd (omega (arith, hp.0.1.1 (sym o.tag_is ∙ sym eg ∙ var), o.k_is))
 
       pub match_var : k < length env → (end' : ℕ) (env' : List ℕ) (r : Bool) → end' ≡ va + passed (drop va v) 1 → Matches p (pa + 1) v end' (m - 1) (set env k (va + 1)) env' r → Matches p pa v va m env env' r
-      unfolding Matches count PlainAll Plain words_of ◌andAll◌
+      unfolding Matches count PlainAll Plain words_of ◌and_all◌
       match_var h end' env' r sk ih end vs rest rest' bindings hp hv sp sv ep ev l b = absurd (omega arith)
       match_var h end' env' r sk ih (int x then ps) vs rest rest' bindings hp hv sp sv ep ev l b = absurd (omega (arith, (integer_at p pa x ps rest ep).tag_is))
       match_var h end' env' r sk ih (node tag n j us then ps) end rest rest' bindings hp hv sp sv ep ev l b = absurd (omega arith)

@@ -11,7 +11,7 @@ use Rattle.lists.proofs.Tests.{true_or_false, true_not_false, leb-true, leb_of, 
 use Rattle.term.specs.Words.{tag_of, n_of, tag_atom, tag_tuple, tag_integer, tag_case, tag_let, tag_receive}
 use Rattle.term.specs.Table.{arity}
 use Rattle.term.specs.Tree.{Term, Terms, int, node, end, ◌then◌, words, words_of, count, Head, Whole, WholeAll}
-use Rattle.term.proofs.TreeLaws.{◌andAll◌, words_all, count_all, whole_all}
+use Rattle.term.proofs.TreeLaws.{◌and_all◌, words_all, count_all, whole_all}
 use Rattle.term.specs.Value.{is_value, are_values}
 use Rattle.machine.specs.Place.{entered}
 use Rattle.machine.proofs.PlaceLaws.{entered_receive, entered_case, entered_let, entered_other}
@@ -109,7 +109,7 @@ inside (t then ts) h h' at f = go (true_or_false (is_value t)) (λ g. inside ts 
 
 -- all of some terms, then others
 all_values : (us ts : Terms) (m here at : ℕ) → are_values us ≡ true → place_among (us and_all ts) (count us + m) here at ≡ place_among ts m here (at + length (words_of us))
-unfolding ◌andAll◌ count are_values words_of
+unfolding ◌and_all◌ count are_values words_of
 all_values end ts m here at v = ap₂ (λ (i j : ℕ). place_among ts i here j) (omega arith) (omega arith)
 all_values (u then us) ts m here at v =
     place_value u (us and_all ts) (suc (count us) + m) here at (λ z. omega (arith, z)) (and_left (is_value u) (are_values us) v)
@@ -118,7 +118,7 @@ all_values (u then us) ts m here at v =
     ∙ ap (place_among ts m here) (omega (arith, length-append (words u) (words_of us)))
 
 some_value : (us ts : Terms) (m here at : ℕ) → are_values us ≡ false → place_among (us and_all ts) (count us + m) here at ≡ place_among us (count us) here at
-unfolding ◌andAll◌ count are_values
+unfolding ◌and_all◌ count are_values
 some_value end ts m here at v = true_not_false refl v
 some_value (u then us) ts m here at v = go (true_or_false (is_value u)) (λ g. some_value us ts m here (at + length (words u)) g)
   where

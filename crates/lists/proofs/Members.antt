@@ -28,6 +28,7 @@ module _ {A : Type 0} where
   -- a test that no element passes, or that one does
   pub none_passes : {x : A} (test : A → Bool) (xs : List A) → any test xs ≡ false → In x xs → test x ≡ false
   unfolding any
+  none_passes test [] e i = elim i [ ]
   none_passes test (x ∷ xs) e first = or_false_left (test x) (any test xs) e
   none_passes test (y ∷ xs) e (later i) = none_passes test xs (or_false_right (test y) (any test xs) e) i
 
@@ -51,6 +52,7 @@ module _ {A : Type 0} where
   head_is e = cc
 
   pub none_kept : {x : A} (test : A → Bool) (xs : List A) → keep test xs ≡ [] → In x xs → test x ≡ false
+  none_kept test [] e i = elim i [ ]
   none_kept test (x ∷ xs) e first = elim (true_or_false (test x)) [ inl t ↦ nil_not_cons (sym e ∙ keep_true test x xs t) | inr t ↦ t ]
   none_kept test (y ∷ xs) e (later i) = elim (true_or_false (test y)) [
     | inl t ↦ nil_not_cons (sym e ∙ keep_true test y xs t)
@@ -67,6 +69,7 @@ module _ {A : Type 0} where
       go (inr t) f = f (sym (keep_false test y xs t) ∙ e)
 
   pub in_kept : {x : A} (test : A → Bool) (xs : List A) → In x xs → test x ≡ true → In x (keep test xs)
+  in_kept test [] i t = elim i [ ]
   in_kept test (x ∷ xs) first t = rw (keep_true test x xs t) first
   in_kept test (y ∷ xs) (later i) t = elim (true_or_false (test y)) [
     | inl u ↦ rw (keep_true test y xs u) (later (in_kept test xs i t))

@@ -11,7 +11,7 @@ use Rattle.lists.proofs.Tests.{eqb_of, eqb_apart, true_not_false}
 use Rattle.term.specs.Words.{word, tag_of, n_of, k_of, tag_integer}
 use Rattle.term.specs.Table.{arity}
 use Rattle.term.specs.Tree.{Terms, int, node, end, ◌then◌, count, Whole, WholeAll}
-use Rattle.term.proofs.TreeLaws.{◌andAll◌, whole_all}
+use Rattle.term.proofs.TreeLaws.{◌and_all◌, whole_all}
 use Rattle.machine.specs.Value.{same_term, same_terms}
 use Rattle.rows.specs.Kinds.{ChildCount}
 use Rattle.row_laws.specs.Bounds.{most_children, pending_limit}
@@ -23,7 +23,7 @@ and_and true b c = refl
 and_and false b c = refl
 
 same_all : (us ts us' ts' : Terms) → count us ≡ count us' → same_terms (us and_all ts) (us' and_all ts') ≡ (same_terms us us' && same_terms ts ts')
-unfolding same_terms ◌andAll◌ count
+unfolding same_terms ◌and_all◌ count
 same_all end ts end ts' s = refl
 same_all end ts (u then us') ts' s = absurd (omega arith)
 same_all (u then us) ts end ts' s = absurd (omega arith)

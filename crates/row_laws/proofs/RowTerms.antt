@@ -17,7 +17,7 @@ use Rattle.term.specs.Tree.{Term, Terms, int, node, end, ◌then◌, words, word
 use Rattle.term.specs.Rows.{passed}
 use Rattle.term.proofs.RowLaws.{passed_none, passed_term, passed_within}
 use Rattle.term.proofs.WordLaws.{tag_word, n_word, k_word}
-use Rattle.term.proofs.TreeLaws.{◌andAll◌, words_one, words_all, count_all}
+use Rattle.term.proofs.TreeLaws.{◌and_all◌, words_one, words_all, count_all}
 use Rattle.row_laws.specs.Rows.{Plain, PlainAll, Stands}
 
 -- ---- the number of children, as the code tests it

@@ -12,7 +12,7 @@ use Rattle.term.specs.Table.{arity}
 use Rattle.term.specs.Tree.{Term, Terms, int, node, end, ◌then◌, words, words_of, count, first, rest, Head, Whole, WholeAll}
 use Rattle.term.specs.Read.{before, under, read, read_payload, terms_of, the_term, term_of}
 use Rattle.term.proofs.WordLaws.{n_small, k_small, tag_word, n_word, k_word, word_parts, not_integer}
-use Rattle.term.proofs.TreeLaws.{whole_first, whole_rest, ◌andAll◌, first_all, rest_all, words_one, words_split, count_first, first_and_rest, count_all}
+use Rattle.term.proofs.TreeLaws.{whole_first, whole_rest, ◌and_all◌, first_all, rest_all, words_one, words_split, count_first, first_and_rest, count_all}
 
 -- all of some terms before those that were read
 unfoldable pub all_before : Terms → Option Terms → Option Terms
@@ -20,12 +20,12 @@ all_before ts none = none
 all_before ts (some us) = some (ts and_all us)
 
 pub all_before_end : (o : Option Terms) → all_before end o ≡ o
-unfolding all_before ◌andAll◌
+unfolding all_before ◌and_all◌
 all_before_end none = refl
 all_before_end (some us) = refl
 
 pub all_before_then : (t : Term) (ts : Terms) (o : Option Terms) → before t (all_before ts o) ≡ all_before (t then ts) o
-unfolding all_before before ◌andAll◌
+unfolding all_before before ◌and_all◌
 all_before_then t ts none = refl
 all_before_then t ts (some us) = refl
 
