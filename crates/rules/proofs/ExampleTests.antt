@@ -15,7 +15,6 @@ use Rattle.term.specs.Module.{check_module}
 use Rattle.term.specs.Shape.{control_shape}
 use Rattle.term.specs.Control.{keeps_rules, good_control, module_arities}
 use Rattle.machine.specs.Work.{Work, to_seq, to_send, to_receive, to_spawn, to_self, to_check, work}
-use Rattle.machine.specs.Work
 use Rattle.rules.specs.State.{Message, Letter, letter, Taking, taking, as_send, as_rec, as_spawn, as_check, Entry, Process, history_of, history_at, entry_at, is_process, in_pool}
 use Rattle.rules.specs.Flight.{sends, letter_or, sent, taken}
 use Rattle.rules.specs.Load.{good_sizes}

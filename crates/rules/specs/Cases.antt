@@ -4,7 +4,7 @@ use Prim.Native.String.{String}
 use Rattle.std.proofs.Math.Option.{none, some}
 use Rattle.term.specs.Cases.{ModuleCases, module_cases}
 use Rattle.machine.specs.Cases.{OperatorCases, operator_cases}
-use Rattle.rules.specs.State.{Sizes, State}
+use Rattle.rules.specs.State.{State}
 use Rattle.rules.specs.Load.{loaded}
 use Rattle.rules.specs.Text.{bytes}
 use Rattle.rules.specs.Line.{lines_of, parse_line}

@@ -1,8 +1,8 @@
 -- 01's lists clause by clause: for each clause a pair that it is about, and one beside it that it leaves alone.
-use Rattle.std.specs.Prelude.{ℕ, ◌≡◌, true, false, List, [], ◌∷◌, ◌++◌}
+use Rattle.std.specs.Prelude.{ℕ, ◌≡◌, true, false, List, [], ◌∷◌}
 use Prim.Native.String.{String}
 use Rattle.std.proofs.Math.Option.{none, some}
-use Rattle.rules.specs.State.{Sizes, Message, seq, send, rec, spawn, State, is_named}
+use Rattle.rules.specs.State.{Message, seq, send, rec, spawn, State, is_named}
 use Rattle.rules.specs.Load.{loaded}
 use Rattle.rules.specs.Text.{bytes}
 use Rattle.rules.specs.Line.{lines_of, parse_line}

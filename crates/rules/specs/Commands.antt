@@ -5,7 +5,6 @@ use Rattle.std.proofs.Math.Option.{Option, none, some}
 use Rattle.lists.specs.Lists.{but_last}
 use Rattle.lists.specs.Tables.{put}
 use Rattle.machine.specs.Work.{Work, to_seq, to_send, to_receive, to_spawn, to_self, to_check, work}
-use Rattle.machine.specs.Work
 use Rattle.rules.specs.Answers.{no_process, finished, waiting, stuck, wrong_command, place_taken, too_large, history_full, no_message, nothing_to_undo, held}
 use Rattle.rules.specs.State.{Message, Letter, letter, Kind, seq, send, rec, spawn, self, check, Entry, Process, State, history_at, in_pool, same_queue}
 use Rattle.rules.specs.Flight.{sends, sent, left, flies, awaited}

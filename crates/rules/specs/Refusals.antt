@@ -3,7 +3,6 @@
 use Rattle.std.specs.Prelude.{ℕ, ◌<◌, ◌≤◌, ◌≡◌, ◌≢◌, true, false, List, [], ◌∷◌, length}
 use Rattle.std.proofs.Math.Option.{Option, some}
 use Rattle.machine.specs.Work.{Work, to_send, to_receive, to_spawn}
-use Rattle.machine.specs.Work
 use Rattle.rules.specs.Answers.{no_process, finished, waiting, stuck, wrong_command, place_taken, too_large, history_full, no_message, nothing_to_undo, held}
 use Rattle.rules.specs.State.{Kind, Entry, State, history_at, in_pool}
 use Rattle.rules.specs.Flight.{left}

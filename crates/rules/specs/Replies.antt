@@ -4,7 +4,6 @@ use Rattle.std.proofs.Math.Option.{Option, none, some}
 use Rattle.rules.specs.Answers.{done, not_aState, bad_line}
 use Rattle.rules.specs.State.{State}
 use Rattle.rules.specs.Load.{Load, loads}
-use Rattle.rules.specs.Load
 use Rattle.rules.specs.Commands.{Plan, refuse, accept, apply, run}
 use Rattle.rules.specs.Rollback.{RolledBack, rolled, rollback}
 use Rattle.rules.specs.Rollback
