@@ -1,1 +1,2 @@
 // Terms in rows of words: specs/ says where a term stands, proofs/ what follows for a walk over the row.
+#![tactic(auto)]
