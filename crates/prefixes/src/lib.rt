@@ -1,2 +1,3 @@
 // Whether words begin with others.
+#![tactic(auto)]
 pub mod prefixes;

@@ -1,3 +1,4 @@
+#![tactic(auto)]
 // Terms in rows of words: the parts of a word, the table of the 18 tags, where terms end and functions begin.
 pub mod functions;
 pub mod tables;
