@@ -15,7 +15,7 @@ use Rattle.rules.specs.State.{Message, Taking, taking, as_rec, Entry, State, his
 use Rattle.rules.specs.Flight.{also_taken, taken, left_or, left}
 use Rattle.rules.specs.Sound.{Prefix, Flows}
 use Rattle.rules.specs.Depends.{queue_before, queues_shown, is_among, shown_in, arrivals}
-use Rattle.rules.specs.Standing.{whole, shown_or, shown, come}
+use Rattle.rules.specs.Standing.{shown_or, shown, come}
 use Rattle.demands.proofs.Messages.{Any, here, there, Is, any_none, any_append, any_left, any_right, any_more, any_middle, any_less, any_map, Named, named_found, named_not, find_named, Once, once_out, once_give}
 use Rattle.demands.proofs.SoundFacts.{FlowsBy, flows_left, prefix_length}
 
@@ -210,6 +210,7 @@ is_like b x = any_map (λ n e. record { sender = ap (λ z. z.sender) e; count = 
 
 -- no name stands in both parts
 pub once_apart : (x : List Message) (n : Message) {y : List Message} → Once (x ++ y) → Any (Named n.sender n.count) x → Any (Is n) y → ⊥
+once_apart [] n o x r = elim x [ ]
 once_apart (v ∷ x) n o (here l) r = o.0 (any_right x (any_map (λ m e. record { sender = ap (λ z. z.sender) e ∙ sym l.sender; count = ap (λ z. z.count) e ∙ sym l.count }) r))
 once_apart (v ∷ x) n o (there z) r = once_apart x n o.1 z r
 

@@ -14,7 +14,7 @@ use Rattle.causal.specs.Exec.{Step, run_all}
 use Rattle.causal.specs.RunsAgree.{ConsistencyOfRuns}
 use Rattle.causal.proofs.Exec.{of_run}
 use Rattle.rules.specs.State.{Sizes, State}
-use Rattle.rules.specs.Load.{good_sizes, loaded, loads, load}
+use Rattle.rules.specs.Load.{good_sizes, loads, load}
 use Rattle.rules.specs.Commands.{Command, undeliver, Deed, makes, undoes, delivers, undelivers, Move, apply, run_state}
 use Rattle.rules.specs.Rules.{command_of}
 use Rattle.rules.specs.Sound.{Sound}

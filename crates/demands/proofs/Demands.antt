@@ -1,5 +1,4 @@
 -- Demands 2 and 3 hold.
-use mathlib.Core.Path.{◌≡◌}
 use Rattle.demands.specs.Demands.{Demand2, Demand3}
 use Rattle.demands.proofs.Allowed.{leads_so, done_so}
 use Rattle.demands.proofs.RunSound.{run_sound}

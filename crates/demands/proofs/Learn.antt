@@ -8,7 +8,7 @@ use mathlib.Core.List.{List, [], ◌∷◌}
 use lib.ListN.{length}
 use Rattle.lists.proofs.Tests.{true_not_false, none_not_some}
 use Rattle.machine.specs.Laws.{Holds}
-use Rattle.rules.specs.State.{Message, letter, Kind, seq, self, check, send, rec, spawn, as_rec, as_spawn, Entry, State, history_at, in_pool}
+use Rattle.rules.specs.State.{Message, letter, Kind, self, rec, spawn, as_rec, as_spawn, Entry, State, history_at, in_pool}
 use Rattle.rules.specs.Flight.{sends, sent}
 use Rattle.rules.specs.Commands.{Deed, undoes, Beside, Move, apply, entry_with}
 use Rattle.rules.specs.Rules.{process}

@@ -12,7 +12,7 @@ use Rattle.lists.proofs.Tests.{none_not_some, some_injective}
 use Rattle.rules.specs.State.{Message, letter, taking, Kind, seq, send, rec, spawn, self, check, as_send, as_rec, as_spawn, Entry, State}
 use Rattle.rules.specs.Flight.{sends, taken}
 use Rattle.rules.specs.Sound.{Sound}
-use Rattle.rules.specs.Depends.{Series, entries_of, deliveries_to, level, happened, depends_at_once, DependsOn, at_once, chain, WithDependents, event, Event}
+use Rattle.rules.specs.Depends.{Series, entries_of, deliveries_to, level, happened, depends_at_once, WithDependents, event, Event}
 use Rattle.rules.specs.Standing.{Stands, Arrives, come, seen}
 use Rattle.rules.specs.Rollback.{Undos, Removes, Cut}
 use Rattle.demands.specs.Demands.{Reachable}
@@ -21,7 +21,7 @@ use Rattle.demands.proofs.Views.{alone_send, alone_rec, alone_spawn}
 use Rattle.demands.proofs.Messages.{any_append, any_left, Named}
 use Rattle.demands.proofs.Event.{line?, under_refl, low}
 use Rattle.demands.proofs.EventDepends.{stands_entry, stands_older}
-use Rattle.demands.proofs.Removal.{Back, undos_back, back_undos, back_under, through, level_in, over_level, level_over, removes_run, gone_in}
+use Rattle.demands.proofs.Removal.{Back, undos_back, back_undos, back_under, through, over_level, level_over, removes_run, gone_in}
 use Rattle.demands.proofs.Cut.{depends_on, depends_happened, Closed, gone_with}
 use Rattle.demands.proofs.CutNumbers.{sees, saw, On, later, of_spawn_entry, of_spawn_delivery, of_queue, of_since, of_send, on_of, sent_to}
 use Rattle.demands.proofs.SearchNumbers.{Can, can_alone, can_send, can_rec, can_spawn, can_undeliver, Less, Cuts, end as no_more, take, run_cuts}

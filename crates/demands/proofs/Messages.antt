@@ -40,6 +40,7 @@ module _ {P : Message → Type 0} where
 
   pub any_one : {m : Message} → Any P (m ∷ []) → P m
   any_one (here n) = n
+  any_one (there x) = elim x [ ]
 
   -- with one more message in the middle
   pub any_more : (a : List Message) (m : Message) (b : List Message) → Any P (a ++ b) → Any P (a ++ (m ∷ b))
@@ -70,6 +71,7 @@ module _ (P : Message → Type 0) where
 
   pub all_at : {m : Message} (b : List Message) → All P b → Any (Is m) b → P m
   unfolding All
+  all_at [] a x = elim x [ ]
   all_at {m} (n ∷ b) a (here e) = rw e at a.0
   all_at (n ∷ b) a (there x) = all_at b a.1 x
 

@@ -51,8 +51,7 @@ module _ {A : Type 0} where
 module _ {A B : Type 0} (f : A → B) where
   pub map_in : {y : B} (xs : List A) → In y (map f xs) → (x : A) × In x xs × (y ≡ f x)
   map_in [] a = nowhere a
-  map_in (x ∷ xs) first = (x, first, refl)
-  map_in (x ∷ xs) (later a) = let (z, b, e) = map_in xs a in (z, later b, e)
+  map_in (x ∷ xs) a = elim (one_of a) [ inl e ↦ (x, first, e) | inr b ↦ (let (z, c, e) = map_in xs b in (z, later c, e)) ]
 
   pub once_map : ((x y : A) → f x ≡ f y → x ≡ y) → (xs : List A) → NoneTwice xs → NoneTwice (map f xs)
   unfolding NoneTwice

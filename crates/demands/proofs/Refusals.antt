@@ -10,7 +10,6 @@ use lib.Dec.{leb, ltb}
 use lib.ListN.{length}
 use Rattle.lists.proofs.Tests.{true_not_false, true_or_false, none_not_some, leb_false, leb_over, leb_of, leb-true, ltb_false, ltb_over, ltb_of, ltb-true, not_true, not_false}
 use Rattle.machine.specs.Work.{Work, to_seq, to_send, to_receive, to_spawn, to_self, to_check, work}
-use Rattle.machine.specs.Work
 use Rattle.rules.specs.Answers.{no_process, finished, stuck, wrong_command, place_taken, too_large, history_full, no_message, held}
 use Rattle.rules.specs.State.{Message, Letter, letter, Kind, seq, send, rec, spawn, self, check, Entry, Process, State, history_at, in_pool, same_queue}
 use Rattle.rules.specs.Flight.{sends, sent, left, flies, awaited}

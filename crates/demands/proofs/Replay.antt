@@ -127,6 +127,12 @@ again {s} {p} {before} {h} told i (undo_spawn {q} {first} j n v) (again_spawn {f
         let one : to_spawn first f.0 ≡ to_spawn born _ = sym f.1 ∙ e in
         let c : first ≡ born = cc in
         ap (λ y. some (new_process y)) c
+again told i (undo_alone x) (again_send e) r z = elim x [ ]
+again told i (undo_alone x) (again_receive e g) r z = elim x [ ]
+again told i (undo_alone x) (again_spawn e below) r z = elim x [ ]
+again told i (undo_send f) (again_alone x) r z = elim x [ ]
+again told i (undo_receive j) (again_alone x) r z = elim x [ ]
+again told i (undo_spawn j n v) (again_alone x) r z = elim x [ ]
 
 pub redo : {s : State} {p n : ℕ} {kind : Kind} {w : Move} → Sound s → Told s → Does s (undoes p n kind) w → Undo (apply w s) s (making_of p kind)
 redo {s} sound told (backward {p} {control} {before} {older} {kind} i un) =

@@ -109,22 +109,22 @@ module _ {s : State} (sound : Sound s) (x : Series) (i : ℕ) (h : happened s (e
     where
       there_to : (r : RolledBack) → Outcome sound (cut_is sound x i (in_level s x h)) (cut_below sound x i (in_level s x h)) r → r ≡ rolled n end → Removes s end Set n
       there_to (rolled m end') (removed q) e = let (a, b) = rolled_same e in subst (λ z. Removes s end Set z) a (subst (λ z. Removes s z Set m) b q)
-      there_to (refused held) (stands f) e = rolled_refused (sym e)
+      there_to (refused _) (stands f) e = rolled_refused (sym e)
 
       back_to : (r : RolledBack) → Outcome sound (cut_is sound x i (in_level s x h)) (cut_below sound x i (in_level s x h)) r → Removes s end Set n → r ≡ rolled n end
       back_to (rolled m end') (removed q) r = let (a, b) = removes_one sound q r in (λ j. rolled (b j) (a j))
-      back_to (refused held) (stands f) r = absurd (f end n r)
+      back_to (refused _) (stands f) r = absurd (f end n r)
 
   holds_event : (undo_to s (cut_before s (event x i)) ≡ refused held) ↔ ((end : State) (n : ℕ) → ¬ Removes s end Set n)
   holds_event = (there_to (undo_to s (cut_before s (event x i))) outcome, back_to (undo_to s (cut_before s (event x i))) outcome)
     where
       there_to : (r : RolledBack) → Outcome sound (cut_is sound x i (in_level s x h)) (cut_below sound x i (in_level s x h)) r → r ≡ refused held → (end : State) (n : ℕ) → ¬ Removes s end Set n
       there_to (rolled m end') (removed q) e = rolled_refused e
-      there_to (refused held) (stands f) e = f
+      there_to (refused _) (stands f) e = f
 
       back_to : (r : RolledBack) → Outcome sound (cut_is sound x i (in_level s x h)) (cut_below sound x i (in_level s x h)) r → ((end : State) (n : ℕ) → ¬ Removes s end Set n) → r ≡ refused held
       back_to (rolled m end') (removed q) f = absurd (f end' m q)
-      back_to (refused held) (stands f) g = refl
+      back_to (refused _) (stands f) g = refl
 
 any_event_goes : AnyEventGoes
 any_event_goes = record {

@@ -25,7 +25,7 @@ use Rattle.rules.specs.Opened.{opened}
 use Rattle.rules.specs.RollbackCases.{some_atom, send_to, message0, received_first, held_received}
 use Rattle.rules.specs.Rollback.{Rollback, rolled_number, rolled_count, rolled_state}
 use Rattle.demands.specs.Demands.{Reachable}
-use Rattle.rules.specs.Standing.{Suffix, whole}
+use Rattle.rules.specs.Standing.{Suffix}
 use Rattle.demands.proofs.Demands.{demand2}
 use Rattle.demands.proofs.Histories.{entry_suffix, sent_suffix, suffix_cons, no_suffix}
 use Rattle.demands.proofs.Messages.{any_none, of_once}

@@ -10,7 +10,6 @@ use Rattle.lists.specs.Lists.{but_last}
 use Rattle.lists.proofs.Tests.{leb-true, ltb-true, not_true, and_left, and_right}
 use Rattle.lists.proofs.Lists.{last_of}
 use Rattle.machine.specs.Work.{Work, to_seq, to_send, to_receive, to_spawn, to_self, to_check, work}
-use Rattle.machine.specs.Work
 use Rattle.rules.specs.Answers.{stuck, place_taken, too_large, history_full, no_message, held}
 use Rattle.rules.specs.State.{Message, Letter, letter, Kind, seq, send, rec, spawn, self, check, as_send, Entry, Process, State, history_at, in_pool, same_queue}
 use Rattle.rules.specs.Flight.{sends, sent, left, flies, awaited}

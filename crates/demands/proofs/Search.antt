@@ -63,6 +63,7 @@ along_is s k (x ∷ lines) {t} e = go (some_or_none (undo_above s k x)) (along_i
     go (inr i) f = f (sym (along_none s k x lines i) ∙ e)
 
 along_not : (s : State) (k : Cut) (lines : List Series) {x : Series} → undo_along s k lines ≡ none → In x lines → undo_above s k x ≡ none
+along_not s k [] e j = elim j [ ]
 along_not s k (x ∷ lines) e first = elim (some_or_none (undo_above s k x)) [ inl z ↦ none_not_some (sym e ∙ along_some s k x lines z.1) | inr i ↦ i ]
 along_not s k (y ∷ lines) e (later j) = elim (some_or_none (undo_above s k y)) [
   | inl z ↦ none_not_some (sym e ∙ along_some s k y lines z.1)

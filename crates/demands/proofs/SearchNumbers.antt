@@ -55,7 +55,7 @@ pub data Can (s : State) (k : Cut) : Series → Type 0 where
       → Can s k (deliveries_to q)
 
 -- ---- seen from a state or from one under it
-suffix_cut : {e : Entry} {g h f : List Entry} → Suffix (e ∷ g) h → Suffix f h → length g < length f → Suffix (e ∷ g) f
+suffix_cut : {e : Entry} {g f h : List Entry} → Suffix (e ∷ g) h → Suffix f h → length g < length f → Suffix (e ∷ g) f
 suffix_cut s whole h = s
 suffix_cut whole (older r) h = let z = suffix_length r in absurd (omega arith)
 suffix_cut (older s) (older r) h = suffix_cut s r h
@@ -348,7 +348,7 @@ pub cuts_run : {s t : State} {k k' : Cut} {n : ℕ} → Sound t → Under t s �
 cuts_run {t = t} sound under e end = (t, halt, e)
 cuts_run {s} {t} sound under e (take {k} {k'} {x = x} {n} c l r) =
     let (m, u) = can_does sound ((can_under under).0 (subst (λ k. Can s k x) (sym e) c)) in
-    let (t', q, i) = cuts_run (undone_sound sound u) (under_trans (undone_under sound u) under) (less_one (subst (λ k. Less k x (level m)) e (undone_less sound u)) l) r in
+    let (t', q, i) = cuts_run {t = m} (undone_sound sound u) (under_trans (undone_under sound u) under) (less_one (subst (λ k. Less k x (level m)) e (undone_less sound u)) l) r in
     (t', took u.does u.undoes_it (subst (λ z. Back z t' n) (sym u.gives) q), i)
 
 pub run_cuts : {s t t' : State} {n : ℕ} → Sound t → Under t s → Back t t' n → Cuts s (level t) (level t') n

@@ -13,7 +13,7 @@ use Rattle.term.specs.Control.{good_control, module_arities}
 use Rattle.machine.specs.Work.{work}
 use Rattle.machine.specs.Laws.{Good, GoodValue, WorkLaws}
 use Rattle.rules.specs.State.{Message, letter, Kind, as_send, as_check, Entry, Process, State, history_at, entry_at}
-use Rattle.rules.specs.Commands.{Deed, makes, Beside, Move, apply, entry_with}
+use Rattle.rules.specs.Commands.{Deed, Beside, Move, apply, entry_with}
 use Rattle.rules.specs.Rules.{process}
 use Rattle.rules.specs.Sound.{SoundControl, AboutToSend, SentTo, Sound}
 use Rattle.rules.proofs.Oldest.{pick_is, pick_takes}

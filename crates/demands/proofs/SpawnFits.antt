@@ -10,7 +10,6 @@ use lib.Dec.{ltb}
 use lib.ListN.{length}
 use Rattle.lists.proofs.Tests.{ltb-true}
 use Rattle.machine.specs.Work.{Work, to_seq, to_send, to_receive, to_spawn, to_self, to_check, work}
-use Rattle.machine.specs.Work
 use Rattle.machine.specs.Laws.{Good, WorkLaws}
 use Rattle.machine.proofs.WorkLaws.{work_laws}
 use Rattle.rules.specs.Answers.{too_large}

@@ -8,7 +8,7 @@ use Rattle.rules.specs.Commands.{run_state}
 use Rattle.rules.specs.Sound.{Sound}
 use Rattle.rules.specs.Reverse.{total}
 use Rattle.rules.specs.Depends.{arrivals, Series, entries_of, deliveries_to, level, happened, WithDependents, event, Event}
-use Rattle.rules.specs.Rollback.{Removes, Rollback, stays, cut_before, undo_of, refused, rolled, rolled_number, rolled_count, rolled_state, undo_to, rollback}
+use Rattle.rules.specs.Rollback.{Removes, Rollback, stays, cut_before, undo_of, refused, rolled, rolled_number, undo_to, rollback}
 use Rattle.demands.specs.Demands.{Reachable}
 
 -- An event with all that depend on it takes the newest entries and the latest deliveries of each process, ..
