@@ -1,2 +1,3 @@
 // Shape: reading a row in order, with the spots where its terms stand.
+#![tactic(auto)]
 pub mod shape;
