@@ -1,8 +1,11 @@
 // The program bench: an answer for each command line of its input, then the listing.
+#![tactic(auto)]
+
 use blocks::blocks::answer_last;
 use input::reading::{Lines, read_all};
 use lines::input::LONGEST_GOOD;
 use scripts::printing::list;
+use std::io::{Result, writer};
 use store::load::load;
 
 // The module that it holds, and its sizes.
@@ -19,11 +22,19 @@ const STORE: usize = 10816;
 
 const LINE: usize = LONGEST_GOOD + 1;
 
-fn main() {
+fn main(rt: HostRuntime) -> Result<()> {
     let mut store = [0u32; STORE];
     load(&MODULE, PLACES, ENTRIES, WORDS, &mut store);
     let mut line = [0u8; LINE];
-    let count = read_all(Lines::Commands, &mut store, &mut line);
-    answer_last(&mut store, &line[..count]);
-    list(&store);
+    let mut to = writer(&rt);
+    let count = read_all(
+        &mut rt.stdin(),
+        &mut to,
+        Lines::Commands,
+        &mut store,
+        &mut line,
+    )?;
+    answer_last(&mut to, &mut store, &line[..count])?;
+    list(&mut to, &store)?;
+    Ok(())
 }

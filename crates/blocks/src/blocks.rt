@@ -1,15 +1,16 @@
 // A block of the input, line by line: the commands of the program bench, or a script.
-ghost use Rattle.std.specs.Prelude.{◌≤◌, length};
+ghost use Rattle.std.specs.Prelude.{◌≤◌, length, IfOk};
 ghost use Rattle.blocks.specs.Rooms.{block_room};
 
 use console::printing::print;
 use lines::input::{Block, keep, last_line, take_block};
 use scripts::script::perform;
+use std::io::{Result, Write};
 use text::keys::LINE_FEED;
 use text::replies::REPLY_ROOM;
 
-// How many bytes a block of the input has, as `io::buffer` makes it, and how many can be said for one: a reply for each of its bytes.
-const BLOCK_ROOM: usize = 4096;
+// How many bytes a block of the input has, and how many can be said for one: a reply for each of its bytes.
+pub const BLOCK_ROOM: usize = 4096;
 
 const SAID: usize = REPLY_ROOM * BLOCK_ROOM;
 
@@ -21,55 +22,73 @@ pub struct Turn {
 }
 
 // A block of commands: what is said for the lines that end in it is printed. Where the line has no room for them none is taken, and no more is
-// read.
-pub fn answer_block(store: &mut [u32], line: &mut [u8], count: usize, block: &[u8]) -> Turn
+// read. An error is one of printing: the store and the line are then as the block made them.
+pub fn answer_block<W: Write>(
+    to: &mut W,
+    store: &mut [u32],
+    line: &mut [u8],
+    count: usize,
+    block: &[u8],
+) -> Result<Turn>
     requires { length block.now ≤ block_room }
-    ensures { result.count ≤ length line.old }
+    ensures { IfOk result (λ turn. turn.count ≤ length line.old) }
 {
     let mut out = [0u8; SAID];
     let taken = take_block(store, line, count, block, &mut out);
     let Block::Taken(kept, end) = taken else {
-        return Turn {
+        return Ok(Turn {
             count: 0,
             more: false,
-        };
+        });
     };
-    print(&out, end);
-    Turn {
+    print(to, &out, end)?;
+    Ok(Turn {
         count: kept,
         more: true,
-    }
+    })
 }
 
 // One byte of a script, after so many of its line.
-fn take_byte(store: &mut [u32], line: &mut [u8], count: usize, b: u8) -> usize
+fn take_byte<W: Write>(
+    to: &mut W,
+    store: &mut [u32],
+    line: &mut [u8],
+    count: usize,
+    b: u8,
+) -> Result<usize>
     requires { count ≤ length line.old }
-    ensures { result ≤ length line.old }
+    ensures { IfOk result (λ n. n ≤ length line.old) }
 {
     if b == LINE_FEED {
-        perform(store, &line[..count]);
-        return 0;
+        perform(to, store, &line[..count])?;
+        return Ok(0);
     }
-    keep(line, count, b)
+    Ok(keep(line, count, b))
 }
 
-// A block of a script.
-pub fn perform_block(store: &mut [u32], line: &mut [u8], count: usize, block: &[u8]) -> usize
+// A block of a script. After an error, which is one of printing, the lines up to the one whose print failed are performed, and none after it.
+pub fn perform_block<W: Write>(
+    to: &mut W,
+    store: &mut [u32],
+    line: &mut [u8],
+    count: usize,
+    block: &[u8],
+) -> Result<usize>
     requires { count ≤ length line.old }
-    ensures { result ≤ length line.old }
+    ensures { IfOk result (λ n. n ≤ length line.old) }
 {
     let mut n = count;
     let mut i = 0;
     while i < block.len() {
-        n = take_byte(store, line, n, block[i]);
+        n = take_byte(to, store, line, n, block[i])?;
         i += 1;
     }
-    n
+    Ok(n)
 }
 
-// Prints the reply to a last line that has no LF.
-pub fn answer_last(store: &mut [u32], line: &[u8]) {
+// Prints the reply to a last line that has no LF. An error is one of printing, and comes after the line is performed.
+pub fn answer_last<W: Write>(to: &mut W, store: &mut [u32], line: &[u8]) -> Result<()> {
     let mut out = [0u8; REPLY_ROOM];
     let end = last_line(store, line, &mut out);
-    print(&out, end);
+    print(to, &out, end)
 }

@@ -1,10 +1,12 @@
 // A read that a signal interrupted.
-use libc::EINTR;
+ghost use Rattle.std.specs.Prelude.{◌≡◌, ◌↔◌, IsTrue};
+ghost use Rattle.std.specs.IoError.{error_kind};
 
-// Whether a read that gave nothing is to be made again: a signal came before any byte.
-pub fn interrupted(got: isize) -> bool {
-    if got >= 0 {
-        return false;
-    }
-    os::errno() == EINTR
+use std::io::{Error, ErrorKind};
+
+// Whether a read that failed is to be made again: a signal came before any byte.
+pub fn interrupted(e: &Error) -> bool
+    ensures { IsTrue result ↔ (error_kind e.now ≡ ErrorKind.Interrupted) }
+{
+    e.kind() == ErrorKind::Interrupted
 }

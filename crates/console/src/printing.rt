@@ -1,21 +1,24 @@
 // Bytes and numbers printed.
-ghost use Rattle.std.specs.Prelude.{◌≤◌, length};
+ghost use Rattle.std.specs.Prelude.{◌≤◌, length, take, OnOk};
+ghost use Rattle.std.specs.Io.KnownBytes.{Appends};
 
-use libc::STDOUT_FILENO;
+use std::io::{Result, Write};
 use text::replies::{REPLY_ROOM, write_number_line};
 
-// Prints the first bytes of an output.
-pub fn print(out: &[u8], end: usize)
+// Prints the first bytes of an output. After an error some of them may have been printed.
+pub fn print<W: Write>(to: &mut W, out: &[u8], end: usize) -> Result<()>
     requires { end ≤ length out.now }
+    ensures { OnOk result (Appends (W.contents to.old) (W.contents to.new) (take end out.now)) }
 {
-    io::write_all(STDOUT_FILENO, &out[..end]);
+    to.write_all(&out[..end])
 }
 
 // Prints a key and a number, which take no more room than a reply.
-pub fn print_number(key: &[u8], n: u32) {
+pub fn print_number<W: Write>(to: &mut W, key: &[u8], n: u32) -> Result<()> {
     let mut out = [0u8; REPLY_ROOM];
     let end = write_number_line(&mut out, 0, key, n);
     if end <= REPLY_ROOM {
-        print(&out, end);
+        print(to, &out, end)?;
     }
+    Ok(())
 }

@@ -1,54 +1,77 @@
 // Standard input, read to its end.
-ghost use Rattle.std.specs.Prelude.{◌≤◌, length};
+ghost use Rattle.std.specs.Prelude.{◌≤◌, length, IfOk};
 ghost use Rattle.blocks.specs.Rooms.{block_room};
 
-use blocks::blocks::{Turn, answer_block, perform_block};
+use blocks::blocks::{BLOCK_ROOM, Turn, answer_block, perform_block};
 use console::interrupt::interrupted;
-use libc::STDIN_FILENO;
+use std::io::{Read, Result, Write};
 
 // What the lines of the input are.
-#[derive(Drop)]
+#[derive(Clone, Copy)]
 pub enum Lines {
     Commands,
     Script,
 }
 
 // A block of the input.
-fn hear(lines: Lines, store: &mut [u32], line: &mut [u8], count: usize, block: &[u8]) -> Turn
+fn hear<W: Write>(
+    to: &mut W,
+    lines: Lines,
+    store: &mut [u32],
+    line: &mut [u8],
+    count: usize,
+    block: &[u8],
+) -> Result<Turn>
     requires count_in_bounds { count ≤ length line.old }
     requires block_len_bound { length block.now ≤ block_room }
-    ensures { result.count ≤ length line.old }
+    ensures { IfOk result (λ turn. turn.count ≤ length line.old) }
 {
     match lines {
-        Lines::Commands => answer_block(store, line, count, block),
-        Lines::Script => Turn {
-            count: perform_block(store, line, count, block),
+        Lines::Commands => answer_block(to, store, line, count, block),
+        Lines::Script => Ok(Turn {
+            count: perform_block(to, store, line, count, block)?,
             more: true,
-        },
+        }),
     }
 }
 
 // Reads once, and performs the lines that end in what came.
-fn read_some(lines: Lines, store: &mut [u32], line: &mut [u8], count: usize) -> Turn
+fn read_some<R: Read, W: Write>(
+    from: &mut R,
+    to: &mut W,
+    lines: Lines,
+    store: &mut [u32],
+    line: &mut [u8],
+    count: usize,
+) -> Result<Turn>
     requires { count ≤ length line.old }
-    ensures { result.count ≤ length line.old }
+    ensures { IfOk result (λ turn. turn.count ≤ length line.old) }
 {
-    let mut block = io::buffer();
-    let got = libc::read(STDIN_FILENO, &mut block);
-    if got <= 0 {
-        return Turn {
+    let mut block = [0u8; BLOCK_ROOM];
+    match from.read(&mut block) {
+        Ok(0) => Ok(Turn {
             count: count,
-            more: interrupted(got),
-        };
+            more: false,
+        }),
+        Ok(n) => hear(to, lines, store, line, count, &block[..n]),
+        Err(e) if interrupted(&e) => Ok(Turn {
+            count: count,
+            more: true,
+        }),
+        Err(e) => Err(e),
     }
-    let n = io::count(got, &block);
-    hear(lines, store, line, count, &block[..n])
 }
 
 // Reads to the end of the input; nothing says that it ends, so turns are counted down from a number that no run uses up. The answer is how
-// many bytes stand in a last line with no LF.
-pub fn read_all(lines: Lines, store: &mut [u32], line: &mut [u8]) -> usize
-    ensures { result ≤ length line.old }
+// many bytes stand in a last line with no LF. After an error the store holds what the lines taken so far made of it.
+pub fn read_all<R: Read, W: Write>(
+    from: &mut R,
+    to: &mut W,
+    lines: Lines,
+    store: &mut [u32],
+    line: &mut [u8],
+) -> Result<usize>
+    ensures { IfOk result (λ count. count ≤ length line.old) }
 {
     let mut turn = Turn {
         count: 0,
@@ -57,8 +80,8 @@ pub fn read_all(lines: Lines, store: &mut [u32], line: &mut [u8]) -> usize
     let mut turns = u64::MAX;
     while turns > 0 && turn.more {
         let count = turn.count;
-        turn = read_some(lines, store, line, count);
+        turn = read_some(from, to, lines, store, line, count)?;
         turns -= 1;
     }
-    turn.count
+    Ok(turn.count)
 }

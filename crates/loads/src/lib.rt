@@ -1,2 +1,4 @@
 // Lines of a script that load.
+#![tactic(auto)]
+
 pub mod loads;

@@ -3,6 +3,7 @@ use calls::load_answers::load_number;
 use checks::module::LONGEST;
 use console::printing::print_number;
 use console::words::read_words;
+use std::io::{Result, Write};
 use store::load::{Loaded, load};
 use text::keys::ANSWER;
 
@@ -14,25 +15,27 @@ const SIZES: usize = 3;
 
 pub const LOADED: usize = 600;
 
-// Loads, from the words of a line.
-fn load_words(store: &mut [u32], words: &[u32]) {
+// Loads, from the words of a line. An error is one of printing, and comes after the load.
+fn load_words<W: Write>(to: &mut W, store: &mut [u32], words: &[u32]) -> Result<()> {
     if words.len() < SIZES {
-        return;
+        return Ok(());
     }
     let loaded = load(&words[SIZES..], words[0], words[1], words[2], store);
-    print_number(&ANSWER, load_number(loaded));
+    print_number(to, &ANSWER, load_number(loaded))?;
     let Loaded::BadModule(at) = loaded else {
-        return;
+        return Ok(());
     };
     if at <= LONGEST {
-        print_number(&POSITION, at as u32);
+        print_number(to, &POSITION, at as u32)?;
     }
+    Ok(())
 }
 
-pub fn load_line(store: &mut [u32], text: &[u8]) {
+pub fn load_line<W: Write>(to: &mut W, store: &mut [u32], text: &[u8]) -> Result<()> {
     let mut words = [0u32; LOADED];
     let n = read_words(text, &mut words);
     if n <= LOADED {
-        load_words(store, &words[..n]);
+        load_words(to, store, &words[..n])?;
     }
+    Ok(())
 }

@@ -5,5 +5,7 @@
 //   short=N                   asks for the listing in an output of N bytes
 //   clear                     makes every word of the store 0
 //   alter=XXXXXXXX XXXXXXXX   makes one word of the store another: its index, then the word
+#![tactic(auto)]
+
 pub mod printing;
 pub mod script;

@@ -5,6 +5,7 @@ use console::printing::print_number;
 use console::words::{WORD_BYTES, alter_line, clear};
 use loads::loads::{LOADED, load_line};
 use parsing::parsing::{Number, begins, read_number};
+use std::io::{Result, Write};
 use text::keys::ANSWER;
 
 // The keys of lines that are no commands of the bench.
@@ -25,44 +26,45 @@ pub const LONGEST_LINE: usize = LOAD.len() + LOADED * WORD_BYTES;
 const SHORTENED: usize = 256;
 
 // Prints a refusal of the listing.
-fn refused(a: Answer) {
+fn refused<W: Write>(to: &mut W, a: Answer) -> Result<()> {
     if number(a) != 0 {
-        print_number(&ANSWER, number(a));
+        print_number(to, &ANSWER, number(a))?;
     }
+    Ok(())
 }
 
-fn short_line(store: &[u32], text: &[u8]) {
+fn short_line<W: Write>(to: &mut W, store: &[u32], text: &[u8]) -> Result<()> {
     let mut out = [0u8; SHORTENED];
     let Number::Value(n) = read_number(text) else {
-        return;
+        return Ok(());
     };
     let end = n as usize;
     if end <= SHORTENED {
-        refused(print_listing(store, &mut out[..end]));
+        let a = print_listing(to, store, &mut out[..end])?;
+        refused(to, a)?;
     }
+    Ok(())
 }
 
-// A line, and what it prints.
-pub fn perform(store: &mut [u32], text: &[u8]) {
+// A line, and what it prints. An error is one of printing: the store is then as the line made it.
+pub fn perform<W: Write>(to: &mut W, store: &mut [u32], text: &[u8]) -> Result<()> {
     if begins(text, &LOAD) {
-        load_line(store, &text[LOAD.len()..]);
-        return;
+        return load_line(to, store, &text[LOAD.len()..]);
     }
     if begins(text, &LIST) {
-        refused(list(store));
-        return;
+        let a = list(to, store)?;
+        return refused(to, a);
     }
     if begins(text, &SHORT) {
-        short_line(store, &text[SHORT.len()..]);
-        return;
+        return short_line(to, store, &text[SHORT.len()..]);
     }
     if begins(text, &CLEAR) {
         clear(store);
-        return;
+        return Ok(());
     }
     if begins(text, &ALTER) {
         alter_line(store, &text[ALTER.len()..]);
-        return;
+        return Ok(());
     }
-    print_reply(store, text);
+    print_reply(to, store, text)
 }
