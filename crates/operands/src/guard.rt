@@ -8,7 +8,7 @@ use rows::terms::skip;
 use rows::words::{CALL, VARIABLE, k, tag};
 
 // What a guard gives, and where it ends.
-#[derive(Drop)]
+#[derive(Clone, Copy)]
 pub struct Given {
     pub what: Operand,
     pub end: usize,

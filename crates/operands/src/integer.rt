@@ -37,7 +37,7 @@ const LEAST_WORD: u32 = LARGEST as u32 + 1;
 
 const LAST_WORD: u32 = LEAST_WORD + LARGEST as u32;
 
-#[derive(Drop)]
+#[derive(Clone, Copy)]
 pub enum Number {
     Value(i32),
     Stuck,

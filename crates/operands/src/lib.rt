@@ -1,4 +1,5 @@
 // Operators on numbers and values, and guards.
+#![tactic(auto)]
 pub mod guard;
 pub mod integer;
 pub mod operand;

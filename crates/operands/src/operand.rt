@@ -16,7 +16,7 @@ pub const TRUE_WORD: u32 = 0x0200_0000;
 
 pub const FALSE_WORD: u32 = TRUE_WORD + 1;
 
-#[derive(Drop)]
+#[derive(Clone, Copy)]
 pub enum Operand {
     Short(u32, u32),
     Here(usize),

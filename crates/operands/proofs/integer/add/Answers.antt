@@ -1,0 +1,22 @@
+-- `add` meets its contract.
+use lib.IntN.{◌+ℤ◌}
+use Rattle.operands.proofs.RowInteger.{cast_wide, wide_add, op_wide, op_fits, op_stuck, reads_fit, reads_value}
+use Rattle.operands.proofs.integer.add.Goals as goal
+
+pub overflow_add-x : goal.overflow_add-x
+overflow_add-x c = search (op_wide ◌+ℤ◌, wide_add)
+
+pub overflow_add-result : goal.overflow_add-result
+overflow_add-result c = search (reads_fit ◌+ℤ◌, op_fits ◌+ℤ◌, wide_add)
+
+pub returns-then-in_range : goal.returns-then-in_range
+returns-then-in_range c = search (reads_value ◌+ℤ◌, op_fits ◌+ℤ◌, wide_add)
+
+pub returns-else-in_range : goal.returns-else-in_range
+returns-else-in_range c = search (op_stuck ◌+ℤ◌, wide_add)
+
+pub overflow_cast-x : goal.overflow_cast-x
+overflow_cast-x c = search cast_wide
+
+pub overflow_cast-y : goal.overflow_cast-y
+overflow_cast-y c = search cast_wide
