@@ -1,2 +1,3 @@
 // The clause that takes a value.
+#![tactic(auto)]
 pub mod clause;
