@@ -1,3 +1,4 @@
 // Command lines read.
+#![tactic(auto)]
 pub mod lines;
 pub mod parsing;
