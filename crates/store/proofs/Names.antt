@@ -1,6 +1,6 @@
 -- Names of messages as numbers: messages whose names are all different, by P senders of at most H sends each, are P-as-H at most.
 use Prim.Native.Nat.{ℕ, ◌+◌, ◌*◌, ◌≤◌, ◌<◌}
-use mathlib.Core.Path.{◌≡◌, refl, sym, ◌∙◌, ap}
+use mathlib.Core.Path.{◌≡◌, refl, sym, ◌∙◌, ap, subst}
 use mathlib.Core.Logic.{◌⊎◌, inl, inr}
 use mathlib.Core.Bool.{true, false, not}
 use mathlib.Core.List.{List, [], ◌∷◌, map}
@@ -61,7 +61,7 @@ module _ (P H : ℕ) where
       go : Dec (c ≡ name_number H m) → occurs c (name_numbers H ms) ≤ 1 → occurs c (name_number H m ∷ name_numbers H ms) ≤ 1
       go (yes e) h =
           let zero-so = none_so m ms a.0 a.1 (not_true (any (is_named m.sender m.count) ms) (and_left (not (any (is_named m.sender m.count) ms)) (distinct ms) d)) in
-          rw e (omega (arith, occurs_head (name_number H m) (name_numbers H ms), zero-so))
+          subst (λ x. occurs x (name_number H m ∷ name_numbers H ms) ≤ 1) (sym e) (omega (arith, occurs_head (name_number H m) (name_numbers H ms), zero-so))
       go (no n) h = omega (arith, occurs_other c (name_number H m) (name_numbers H ms) n)
 
   high_none : (ms : List Message) → All (Numbered P H) ms → (c : ℕ) → P * H ≤ c → occurs c (name_numbers H ms) ≡ 0

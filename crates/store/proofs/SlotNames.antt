@@ -1,6 +1,6 @@
 -- Names in slots: messages read of names have different names where the names differ, and were sent where the names say so.
 use Prim.Native.Nat.{ℕ, ◌/◌, ◌%◌, ◌≤◌}
-use mathlib.Core.Path.{◌≡◌, refl, sym, ◌∙◌, ap}
+use mathlib.Core.Path.{◌≡◌, refl, sym, ◌∙◌, ap, subst}
 use mathlib.Core.Logic.{inl, inr}
 use mathlib.Core.Bool.{Bool, true, false, not, ◌&&◌, ◌||◌}
 use mathlib.Core.Option.{Option, some}
@@ -73,7 +73,7 @@ module _ (module' : List ℕ) (places : ℕ → List Slot) where
       go : Dec (c ≡ w) → occurs c ws ≤ 1 → occurs c (w ∷ ws) ≤ 1
       go (yes e) h =
           let alone = none_named w ws (not_true (NamedSo w ws) (and_left (not (NamedSo w ws)) (distinct (messages_of module' places ws)) d)) in
-          rw e (omega (arith, occurs_head w ws))
+          subst (λ x. occurs x (w ∷ ws) ≤ 1) (sym e) (omega (arith, occurs_head w ws, alone))
       go (no n) h = omega (arith, occurs_other c w ws n)
 
 -- a message read of a word was sent where the word says so
