@@ -1,4 +1,5 @@
 // Cuts on numbers alone: which events go with one that goes, and whether accepted undos take them off.
+#![tactic(auto)]
 pub mod bounds;
 pub mod chains;
 pub mod cut;
