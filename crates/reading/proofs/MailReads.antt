@@ -181,6 +181,7 @@ or_none false = refl
 
 any_of : (test : Message → Bool) {m : Message} (ms : List Message) → Any (Is m) ms → test m ≡ true → any test ms ≡ true
 unfolding any
+any_of test [] a t = elim a [ ]
 any_of test (x ∷ ms) (here e) t = or_left (any test ms) (ap test e ∙ t)
 any_of test (x ∷ ms) (there a) t = or_right (test x) (any_of test ms a t)
 

@@ -15,9 +15,6 @@ use Rattle.step.specs.Becomes.{Sent}
 use Rattle.step.specs.declared.control.Extent.{Extent}
 use Rattle.step.specs.declared.work.Doing.{Doing}
 use Rattle.step.specs.declared.work.Doing.TheVariants.{Send}
-use types.Run.{OneOf, miss}
-use denote.Enum.Declared.{tag_of}
-use Rattle.step.specs.contracts.work.Doing.{the_type}
 use Rattle.store.specs.Image.{IsImage}
 use Rattle.store.proofs.SoundStates.{sizes_in_lem}
 use Rattle.reading.specs.Reads.{OfState, IsEntry, OfEntry, IsSend, OfSend}
@@ -69,11 +66,9 @@ module _ (l : List ℕ) (p i : ℕ) where
   target_out r t f q = of_state _ λ s rest h. λ e target value stands says. let z = holding _ f s rest h e target value stands says in cc
 
 -- a control that is about to send is not about to do anything else
-pub target_else : (l : List ℕ) (p i : ℕ) (r : Doing) → OfState l (OfSend p i (λ target value. r ≡ Send target)) → OneOf (0 ∷ 1 ∷ 2 ∷ 4 ∷ 5 ∷ 6 ∷ 7 ∷ []) (tag_of the_type r) → OfState l (OfSend p i (λ target value. 0 ≡ target))
+pub target_else : (l : List ℕ) (p i : ℕ) (r : Doing) → OfState l (OfSend p i (λ target value. r ≡ Send target)) → ((target : ℕ) → ¬ (r ≡ Send target)) → OfState l (OfSend p i (λ target value. 0 ≡ target))
 unfolding OfSend
-target_else l p i r f k = of_state _ λ s rest h. λ e target value stands says.
-    let z = subst (λ (d : Doing). OneOf (0 ∷ 1 ∷ 2 ∷ 4 ∷ 5 ∷ 6 ∷ 7 ∷ []) (tag_of the_type d)) (holding _ f s rest h e target value stands says) k in
-    absurd (miss (0 ∷ 1 ∷ 2 ∷ 4 ∷ 5 ∷ 6 ∷ 7 ∷ []) 3 tt z)
+target_else l p i r f n = of_state _ λ s rest h. λ e target value stands says. absurd (n target (holding _ f s rest h e target value stands says))
 
 -- ---- a part of a row, as much of it as there is
 

@@ -5,9 +5,6 @@ use mathlib.Core.Bool.{Bool, true, false, cond, not}
 use mathlib.Core.Option.{Option, none, some}
 use mathlib.Core.List.{List, [], ◌∷◌}
 use native.Mathlib.Omega.{arith}
-use mathlib.Core.Logic.{◌⊎◌, inl, inr}
-use types.Run.{OneOf}
-use denote.Enum.Declared.{tag_of}
 use lib.ListN.{length, take, drop, get_or, set, get_or-eq_default}
 use Rattle.lists.specs.Lists.{All}
 use Rattle.lists.proofs.Tests.{eqb_of, eqb_apart, cond_true, cond_false, not_true, not_false}
@@ -17,7 +14,6 @@ use Rattle.machine.specs.Work.{Work, finished, stuck, to_seq, to_send, to_receiv
 use Rattle.step.specs.Controls.{doing_of, DoingOf}
 use Rattle.step.specs.declared.work.Doing.{Doing}
 use Rattle.step.specs.declared.work.Doing.TheVariants.{Finished, Stuck, Seq, Send, Receive, Spawn, Own, Check}
-use Rattle.step.specs.contracts.work.Doing.{the_type}
 use Rattle.store.specs.Layout.{slot_head, kind_send}
 use Rattle.slots.specs.SoundTests.{control_in, answered, and_then}
 use Rattle.slots.specs.SendTests.{target_of, sent_to, sent_of, SendReady, SentIs, note_next, note_slots, entry_slots, note_from, NotesPlace, NotesPlaces}
@@ -49,22 +45,13 @@ target_same (to_spawn child next) = refl
 target_same (to_self next) = refl
 target_same (to_check number next) = refl
 
--- a step that is none of the others is a send
-not_send : (n : ℕ) → n ≡ 3 → (n ≡ 0) ⊎ ((n ≡ 1) ⊎ ((n ≡ 2) ⊎ ((n ≡ 4) ⊎ ((n ≡ 5) ⊎ ((n ≡ 6) ⊎ (n ≡ 7)))))) → ⊥
-not_send n e (inl z) = omega arith
-not_send n e (inr (inl z)) = omega arith
-not_send n e (inr (inr (inl z))) = omega arith
-not_send n e (inr (inr (inr (inl z)))) = omega arith
-not_send n e (inr (inr (inr (inr (inl z))))) = omega arith
-not_send n e (inr (inr (inr (inr (inr (inl z)))))) = omega arith
-not_send n e (inr (inr (inr (inr (inr (inr z)))))) = omega arith
-
-no_target : (d : Doing) → OneOf (0 ∷ 1 ∷ 2 ∷ 4 ∷ 5 ∷ 6 ∷ 7 ∷ []) (tag_of the_type d) → target_in d ≡ none
+-- a step that is no send has no target
+no_target : (d : Doing) → ((target : ℕ) → ¬ (d ≡ Send target)) → target_in d ≡ none
 unfolding target_in
 no_target Finished o = refl
 no_target Stuck o = refl
 no_target Seq o = refl
-no_target (Send target) o = absurd (not_send 3 refl o)
+no_target (Send target) o = absurd (o target refl)
 no_target Receive o = refl
 no_target Spawn o = refl
 no_target Own o = refl
@@ -93,7 +80,7 @@ module _ (live : List Bool) (w : List ℕ) where
         ∙ ap (sent_to live) (sym (target_same (work module' (control_in w))))
         ∙ ap (λ (x : Doing). sent_to live (target_in x)) (sym (subst (λ (c : List ℕ). DoingOf c d) lent does module' (term_of (control_in w)) (ready k)))
 
-    pub sent_other : OneOf (0 ∷ 1 ∷ 2 ∷ 4 ∷ 5 ∷ 6 ∷ 7 ∷ []) (tag_of the_type d) → SentIs live w Bad
+    pub sent_other : ((target : ℕ) → ¬ (d ≡ Send target)) → SentIs live w Bad
     unfolding sent_to
     sent_other o = record { same = λ module' ready. sym (sent_is module' ready ∙ ap (sent_to live) (no_target d o)); small = bad_small Bad refl }
 

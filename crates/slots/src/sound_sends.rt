@@ -10,7 +10,7 @@ use step::work::{Doing, about_to};
 use store::layout::{SEND, SLOT_HEAD, SLOT_KIND, SLOT_WORDS};
 
 // What a slot says of sends: it is none, a send to a live place, or a send that its control is not about to make or to no live place.
-#[derive(Drop)]
+#[derive(Clone, Copy)]
 pub enum Sent {
     No,
     To(u32),

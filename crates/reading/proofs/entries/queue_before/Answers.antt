@@ -1,0 +1,16 @@
+-- `queue_before` meets its contract.
+use Rattle.reading.proofs.StateReads.{entry_is_place, entry_index, entry_low, names_fit, queue_before_out}
+use native.Mathlib.Omega.{arith}
+use Rattle.reading.proofs.entries.queue_before.Goals as goal
+
+pub overflow_add-i : goal.overflow_add-i
+overflow_add-i c = omega (arith, entry_low _ _ _ c.requires.1 c.requires.0)
+
+pub slot-requires : goal.slot-requires
+slot-requires c = (c.requires.0, entry_is_place _ _ _ c.requires.1, entry_index _ _ _ c.requires.1)
+
+pub slot_names-requires : goal.slot_names-requires
+slot_names-requires c = names_fit _ c.requires.0 _ _ _ c.slot.ensures _ c.most_words.ensures
+
+pub returns : goal.returns
+returns c = queue_before_out _ _ _ _ c.slot.ensures _ _ c.most_words.ensures c.slot_names.ensures
