@@ -18,7 +18,7 @@ use reading::state::{entry_count, places};
 use store::layout::{SEND, SPAWN};
 
 // Where a spawn stands: its place and its number there.
-#[derive(Drop)]
+#[derive(Clone, Copy)]
 pub enum Born {
     Nowhere,
     By(usize, usize),

@@ -10,7 +10,7 @@ use crate::links::link_entry;
 use reading::state::{entry_count, places};
 
 // The sort of links that a walk collects.
-#[derive(Drop)]
+#[derive(Clone, Copy)]
 pub enum Sort {
     Ties,
     Aims,
