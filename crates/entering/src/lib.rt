@@ -1,2 +1,3 @@
 // An entry more, written into a store that is the image of a sound state.
+#![tactic(auto)]
 pub mod entering;
