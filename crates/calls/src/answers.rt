@@ -3,7 +3,7 @@ ghost use Rattle.std.specs.Prelude.{◌≡◌};
 ghost use Rattle.calls.specs.Numbers.{number_of, value_of};
 
 // 01's cases, in the order of its numbers. The number that goes with Done is a rollback's count of events or a listing's length, else 0.
-#[derive(Drop)]
+#[derive(Clone, Copy)]
 pub enum Answer {
     Done(u32),
     NoProcess,

@@ -13,7 +13,7 @@ use rows::words::{
 use shape::shape::between;
 
 // Where the words that were gone through end, or the word that breaks a rule.
-#[derive(Drop)]
+#[derive(Clone, Copy)]
 pub enum Gone {
     Past(usize),
     Broke(usize),
@@ -127,7 +127,7 @@ pub fn meet(w: u32, checks: &mut [bool; CHECK_NUMBERS])
 }
 
 // A light word names nothing and binds nothing: how many words it takes, and how many terms stand below it. Any other takes none.
-#[derive(Drop)]
+#[derive(Clone, Copy)]
 pub struct Light {
     pub words: usize,
     pub below: usize,
@@ -160,7 +160,7 @@ pub fn opens(tag: u32) -> bool
 }
 
 // Where words end that bind nothing, or the word that breaks a rule, or one that opens a scope: so many terms are to come from it on.
-#[derive(Drop)]
+#[derive(Clone, Copy)]
 pub enum Plain {
     Past(usize),
     Broke(usize),
@@ -208,7 +208,7 @@ pub fn keep_plain(
 }
 
 // So many terms in an inner scope from a position on, then so many in the outer one; and whether numbers of checks have to differ.
-#[derive(Drop)]
+#[derive(Clone, Copy)]
 pub struct Both {
     pub at: usize,
     pub first: usize,

@@ -14,14 +14,14 @@ use shape::shape::{FUNCTION_SPOT, Reading, read};
 pub const LONGEST: usize = 512;
 
 // What the module check finds: nothing bad, or the position of a bad word.
-#[derive(Drop)]
+#[derive(Clone, Copy)]
 pub enum Checked {
     Good,
     Bad(usize),
 }
 
 // How many functions a module has, or the first word at which reading it fails.
-#[derive(Drop)]
+#[derive(Clone, Copy)]
 pub enum Functions {
     Count(usize),
     Fails(usize),

@@ -8,7 +8,7 @@ use operands::guard::holds;
 use rows::terms::skip;
 use rows::words::VARIABLES;
 
-#[derive(Drop)]
+#[derive(Clone, Copy)]
 pub enum Chosen {
     Clause(usize),
     Nothing,

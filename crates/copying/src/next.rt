@@ -39,7 +39,7 @@ pub fn with_integer(c: &[u32], at: usize, x: u32, out: &mut [u32]) -> usize
 }
 
 // The term at `body` of one row is to stand in place of the term at `at` of another.
-#[derive(Drop)]
+#[derive(Clone, Copy)]
 pub struct Swap {
     pub at: usize,
     pub body: usize,

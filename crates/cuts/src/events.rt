@@ -5,7 +5,7 @@ ghost use Rattle.cuts.specs.Bounds.{most_places};
 ghost use Rattle.cuts.specs.Links.{line_number};
 
 // Event `index` of line `line`.
-#[derive(Drop)]
+#[derive(Clone, Copy)]
 pub struct Event {
     pub line: usize,
     pub index: usize,

@@ -1,5 +1,5 @@
 // Which link or line was found.
-#[derive(Drop)]
+#[derive(Clone, Copy)]
 pub enum Found {
     Nowhere,
     At(usize),

@@ -5,7 +5,7 @@ ghost use Rattle.cuts.specs.Links.{link_size, IsLink, put_link};
 use crate::bounds::LINK_SIZE;
 
 // Event `index` of line `line` depends on event `at` of line `on`.
-#[derive(Drop)]
+#[derive(Clone, Copy)]
 pub struct Link {
     pub line: usize,
     pub index: usize,

@@ -13,7 +13,7 @@ use crate::found::Found;
 use crate::link::link_at;
 
 // What a search says: so many undos lead down to the cut, or undos stop above it.
-#[derive(Drop)]
+#[derive(Clone, Copy)]
 pub enum Descent {
     Reaches(u32),
     Stops,

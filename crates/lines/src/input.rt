@@ -13,14 +13,14 @@ const DIGITS: usize = 3;
 pub const LONGEST_GOOD: usize = ROLLBACK.len() + DIGITS + 1 + DIGITS;
 
 // How many bytes stand of a line that has not ended, and where the output ends.
-#[derive(Drop)]
+#[derive(Clone, Copy)]
 struct Heard {
     count: usize,
     end: usize,
 }
 
 // A block that was taken, with how many bytes stand of a line that has not ended and where the output ends; or one that was not taken.
-#[derive(Drop)]
+#[derive(Clone, Copy)]
 pub enum Block {
     Taken(usize, usize),
     Refused,

@@ -15,7 +15,7 @@ use text::keys::FLIGHT;
 use text::writing::{past, write_bytes, write_gap, write_line_feed, write_name};
 
 // How far a row of pieces split by single spaces is written: the position after it, and 0 where no piece stands in it yet.
-#[derive(Drop)]
+#[derive(Clone, Copy)]
 pub struct Row {
     to: usize,
     before: usize,

@@ -32,7 +32,7 @@ fn taken_row(store: &[u32], p: usize, name: u32, out: &mut [u32]) -> Next
 }
 
 // The place of the message in the queue, and the next control; the queue's length where none is taken.
-#[derive(Drop)]
+#[derive(Clone, Copy)]
 pub struct Picked {
     pub place: usize,
     pub next: Next,

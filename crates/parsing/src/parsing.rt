@@ -12,21 +12,21 @@ use text::keys::{BACK, COMMA, DELIVER, DIGIT_NINE, DIGIT_ZERO, ROLLBACK, SPAWN, 
 const MOST: u32 = 255;
 
 // A number, or that the text is none.
-#[derive(Drop)]
+#[derive(Clone, Copy)]
 pub enum Number {
     Value(u32),
     Not,
 }
 
 // Two numbers, or that the text is not two.
-#[derive(Drop)]
+#[derive(Clone, Copy)]
 pub enum Pair {
     Values(u32, u32),
     Neither,
 }
 
 // What a line asks for.
-#[derive(Drop)]
+#[derive(Clone, Copy)]
 pub enum Line {
     Step(u32),
     Spawn(u32, u32),

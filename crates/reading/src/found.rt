@@ -1,5 +1,5 @@
 // Where an entry stands.
-#[derive(Drop)]
+#[derive(Clone, Copy)]
 pub enum Found {
     Nowhere,
     At(usize),

@@ -1,2 +1,3 @@
 // What is printed for a command line.
+#![tactic(auto)]
 pub mod replies;

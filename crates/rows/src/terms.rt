@@ -6,7 +6,7 @@ use crate::tables::children;
 use crate::words::{INTEGER, tag};
 
 // So many terms that are still to come, the first of them at a position.
-#[derive(Drop)]
+#[derive(Clone, Copy)]
 pub struct Ahead {
     pub at: usize,
     pub owed: usize,

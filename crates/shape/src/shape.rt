@@ -121,7 +121,7 @@ pub fn may_stand(places: u32, spot: usize, w: u32) -> bool
 }
 
 // The spots of a word's children, in three runs of one spot each.
-#[derive(Drop)]
+#[derive(Clone, Copy)]
 pub struct Spots {
     pub first: usize,
     pub firsts: usize,
@@ -241,7 +241,7 @@ pub fn common(spot: usize, w: u32) -> bool
 }
 
 // Where words end whose children stand at their own spot, or the first that fails, or one with other children: so many terms are to come from it on.
-#[derive(Drop)]
+#[derive(Clone, Copy)]
 pub enum Run {
     Ends(usize),
     Fails(usize),
@@ -290,7 +290,7 @@ pub fn read_alike(row: &[u32], places: u32, at: usize, spot: usize, times: usize
 }
 
 // Where reading ends, or the first word at which it fails.
-#[derive(Drop)]
+#[derive(Clone, Copy)]
 pub enum Reading {
     Ends(usize),
     Fails(usize),

@@ -61,7 +61,7 @@ pub fn seq_next(program: &[u32], c: &[u32], out: &mut [u32]) -> Next
 }
 
 // The value that a send is about to send: the place of its first word, and the place after it.
-#[derive(Drop)]
+#[derive(Clone, Copy)]
 pub struct Extent {
     pub from: usize,
     pub to: usize,

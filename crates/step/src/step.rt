@@ -13,7 +13,7 @@ use rows::terms::skip;
 use rows::words::{INTEGER_WORD, VARIABLES, k, n};
 
 // No next control; one that is too large; one of so many words.
-#[derive(Drop)]
+#[derive(Clone, Copy)]
 pub enum Next {
     Nothing,
     TooLarge,

@@ -10,7 +10,7 @@ use operands::operand::Operand;
 use rows::words::{APPLY, CALL, CASE, CHECK, LET, PID, RECEIVE, SELF, SEND, SPAWN, k, tag};
 
 // The cases of 01; a send with its target, a check with its number.
-#[derive(Drop)]
+#[derive(Clone, Copy)]
 pub enum Doing {
     Finished,
     Stuck,

@@ -8,7 +8,7 @@ use checks::module::{Checked, check_module};
 use rows::words::{APPLY, word_of};
 
 // What a load answers; a bad module with the position of a bad word.
-#[derive(Drop)]
+#[derive(Clone, Copy)]
 pub enum Loaded {
     Done,
     BadSizes,

@@ -13,7 +13,7 @@ use crate::writing::{past, write_bytes, write_gap, write_line_feed, write_name, 
 use rows::words::NAME_BASE;
 
 // The kind of a process's newest entry.
-#[derive(Drop)]
+#[derive(Clone, Copy)]
 pub enum Newest {
     Seq,
     Send,
@@ -103,7 +103,7 @@ pub fn write_control(out: &mut [u8], at: usize, words: &[u32]) -> usize
 }
 
 // A process's place, how many entries it has, and the newest of them.
-#[derive(Drop)]
+#[derive(Clone, Copy)]
 pub struct Shown {
     pub place: u32,
     pub entries: u32,

@@ -56,7 +56,7 @@ pub fn drop_name(slot: &mut [u32], words: usize, place: usize)
 }
 
 // What a slot's head says beside the length of its control.
-#[derive(Drop)]
+#[derive(Clone, Copy)]
 pub struct Head {
     pub kind: u32,
     pub number: u32,

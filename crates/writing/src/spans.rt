@@ -8,7 +8,7 @@ use store::layout::{HEAD_ENTRIES, HEAD_PLACES, HEAD_WORDS, slot_size};
 use store::slot::slot_start;
 
 // The words of a slot, from one place to another, and the room that it has for a control.
-#[derive(Drop)]
+#[derive(Clone, Copy)]
 pub struct Span {
     pub from: usize,
     pub end: usize,
