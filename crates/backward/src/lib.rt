@@ -1,3 +1,4 @@
 // Undoing: back and undeliver on a store.
+#![tactic(auto)]
 pub mod backward;
 pub mod held;

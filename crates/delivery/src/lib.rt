@@ -1,2 +1,3 @@
 // Deliver on a store.
+#![tactic(auto)]
 pub mod delivery;

@@ -1,0 +1,13 @@
+-- `deliver` meets its contract.
+use Rattle.lists.proofs.Tests.{not_false, not_true}
+use Rattle.calls.proofs.Answering.{call_does, call_ready, call_refuses}
+use Rattle.delivery.proofs.delivery.deliver.Goals as goal
+
+pub returns-then-not-sound : goal.returns-then-not-sound
+returns-then-not-sound c = search (call_refuses, not_true)
+
+pub deliver_sound-requires : goal.deliver_sound-requires
+deliver_sound-requires c = search (call_ready, not_false)
+
+pub returns : goal.returns
+returns c = search (call_does, not_false)
