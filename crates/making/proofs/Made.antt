@@ -45,14 +45,14 @@ fitted_nothing m most e = elim (true_or_false (leb m most)) [
   | inr t ↦ (let f = cond_false (Row m) TooLarge t in let z : ◌≡◌ {A = ℕ} 0 1 = cc in omega arith)
 ]
 
--- neither Row nor its length: the next control is too large
+-- no row: the next control is too large
 abbrev pub NoLength : Next → Type 0
-NoLength next = OneOf (0 ∷ 1 ∷ []) (tag_of the_type next)
+NoLength next = (n : ℕ) → ¬ (next ≡ Row n)
 
 pub fitted_else : (next : Next) (m most : ℕ) → NoLength next → next ≡ fitted_of m most → leb m most ≡ false
 unfolding fitted_of
 fitted_else next m most k e = elim (true_or_false (leb m most)) [
-  | inl t ↦ absurd (miss (0 ∷ 1 ∷ []) 2 tt (subst (λ (x : Next). OneOf (0 ∷ 1 ∷ []) (tag_of the_type x)) (e ∙ cond_true (Row m) TooLarge t) k))
+  | inl t ↦ absurd (k m (e ∙ cond_true (Row m) TooLarge t))
   | inr t ↦ t
 ]
 

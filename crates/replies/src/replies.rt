@@ -26,7 +26,7 @@ fn is_rollback(asked: Line) -> bool
 // The lines for an answer: its number, and the count of an accepted rollback.
 pub fn write_reply(out: &mut [u8], at: usize, asked: Line, a: Answer) -> usize
     ensures wrote { Wrote (reply_text (request_of asked) a) at out.old out.new result }
-    ensures a_len_bound { length (reply_text (request_of asked) a) ≤ reply_room }
+    ensures short { length (reply_text (request_of asked) a) ≤ reply_room }
 {
     let n = number(a);
     let to = write_answer(out, at, n);
