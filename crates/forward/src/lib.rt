@@ -1,2 +1,3 @@
 // Step and spawn on a store.
+#![tactic(auto)]
 pub mod commands;
