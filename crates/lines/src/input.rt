@@ -39,7 +39,7 @@ pub fn keep(line: &mut [u8], count: usize, b: u8) -> usize
 
 // LF: the line that has begun is answered, and nothing stands of the next.
 fn end_line(store: &mut [u32], line: &[u8], out: &mut [u8], at: usize) -> Heard
-    ensures count_value { result.count ≡ 0 }
+    ensures empty { result.count ≡ 0 }
     ensures replied { Replied line.now store.old store.new at out.old out.new result.end }
 {
     let end = reply(store, line, out, at);
@@ -56,7 +56,7 @@ fn take_byte(
     at: usize,
 ) -> Heard
     requires { count ≤ length line.old }
-    ensures count_in_bounds { result.count ≤ length line.old }
+    ensures within { result.count ≤ length line.old }
     ensures took { Took store.old line.old count (b ∷ []) at out.old store.new line.new result.count out.new result.end }
 {
     if b == LINE_FEED {

@@ -1,3 +1,4 @@
 // Command lines, and the program's input.
+#![tactic(auto)]
 pub mod input;
 pub mod lines;
