@@ -1,2 +1,3 @@
 // The calls for programs in other languages.
+#![tactic(auto)]
 pub mod exports;

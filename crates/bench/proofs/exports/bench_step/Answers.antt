@@ -1,0 +1,5 @@
+use Rattle.bench.proofs.Packed.{command_returns}
+use Rattle.bench.proofs.exports.bench_step.Goals as goal
+
+pub returns : goal.returns
+returns c = command_returns _ _ c.pack.ensures _ _ _ c.step.ensures
