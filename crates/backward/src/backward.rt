@@ -1,5 +1,5 @@
 // Back and undeliver.
-ghost use Rattle.rules.specs.Commands.{back as backOf, undeliver as undeliver_of};
+ghost use Rattle.rules.specs.Commands.{back as back_of, undeliver as undeliver_of};
 ghost use Rattle.store.specs.Image.{IsImage};
 ghost use Rattle.calls.specs.Numbers.{CommandCall};
 ghost use Rattle.calls.specs.Answering.{Does};
@@ -14,7 +14,7 @@ use writing::undoing::undo;
 // p's newest entry is undone, in a store that holds a state.
 fn back_sound(store: &mut [u32], p: u32) -> Answer
     requires { IsImage store.old }
-    ensures { Does (backOf p) store.old store.new result }
+    ensures { Does (back_of p) store.old store.new result }
 {
     if !in_pool(store, p) {
         return Answer::NoProcess;
@@ -32,7 +32,7 @@ fn back_sound(store: &mut [u32], p: u32) -> Answer
 
 // p's newest entry is undone.
 pub fn back(store: &mut [u32], p: u32) -> Answer
-    ensures { CommandCall (backOf p) store.old store.new result }
+    ensures { CommandCall (back_of p) store.old store.new result }
 {
     if !sound(store) {
         return Answer::NotAState;

@@ -1,8 +1,8 @@
 // What holds an entry or a message in its place.
 ghost use Rattle.std.specs.Prelude.{◌≡◌, length};
 ghost use Rattle.rules.specs.State.{history_at};
-ghost use Rattle.rules.specs.Flight.{sends, left as leftBy, flies};
-ghost use Rattle.rules.specs.Commands.{back, untouched as untouchedAt, run};
+ghost use Rattle.rules.specs.Flight.{sends, left as left_by, flies};
+ghost use Rattle.rules.specs.Commands.{back, untouched as untouched_at, run};
 ghost use Rattle.store.specs.Image.{IsImage};
 ghost use Rattle.reading.specs.Reads.{OfState, IsPlace, Lives, IsSend, OfSend, oldest};
 ghost use Rattle.backward.specs.Undoing.{IsNewest, is_accepted};
@@ -16,7 +16,7 @@ use store::layout::{REC, SEND, SPAWN};
 // How many messages the newest rec of p left in its queue; 0 where there is none.
 pub fn left(store: &[u32], p: usize) -> usize
     requires { IsImage store.now × OfState store.now (IsPlace p) }
-    ensures { OfState store.now (λ s. result ≡ length (leftBy (history_at s p))) }
+    ensures { OfState store.now (λ s. result ≡ length (left_by (history_at s p))) }
 {
     let mut i = entry_count(store, p);
     while 0 < i {
@@ -41,7 +41,7 @@ fn flying(store: &[u32], p: u32, i: usize) -> bool
 // Whether the process at q has no entry and no message, and nothing is in flight to it.
 fn untouched(store: &[u32], q: usize) -> bool
     requires { IsImage store.now × OfState store.now (Lives q) }
-    ensures { OfState store.now (λ s. result ≡ untouchedAt s q) }
+    ensures { OfState store.now (λ s. result ≡ untouched_at s q) }
 {
     if 0 < entry_count(store, q) {
         return false;

@@ -1,7 +1,7 @@
 // The calls for programs in other languages, on plain numbers and slices. Each returns value × 2^32 + number: 01's number, and the
 // position, count or length that goes with it.
 ghost use Rattle.std.specs.Prelude.{◌≡◌};
-ghost use Rattle.rules.specs.Commands.{step as step_of, spawn_into, deliver as deliverOf, back as backOf, undeliver as undeliver_of};
+ghost use Rattle.rules.specs.Commands.{step as step_of, spawn_into, deliver as deliver_of, back as back_of, undeliver as undeliver_of};
 ghost use Rattle.rules.specs.Line.{single, rollback_to};
 ghost use Rattle.store.specs.Sizing.{sizes_of};
 ghost use Rattle.calls.specs.Calls.{RequestCall, LineCall, ListingCall, LoadCall};
@@ -64,7 +64,7 @@ pub extern "C" fn bench_spawn(store: &mut [u32], p: u32, f: u32) -> u64
 // Message s.k comes to the end of its target's queue.
 #[unsafe(no_mangle)]
 pub extern "C" fn bench_deliver(store: &mut [u32], s: u32, k: u32) -> u64
-    ensures { RequestCall (single (deliverOf s k)) store.old (returned result store.new) }
+    ensures { RequestCall (single (deliver_of s k)) store.old (returned result store.new) }
 {
     pack(deliver(store, s, k))
 }
@@ -72,7 +72,7 @@ pub extern "C" fn bench_deliver(store: &mut [u32], s: u32, k: u32) -> u64
 // p's newest entry is undone.
 #[unsafe(no_mangle)]
 pub extern "C" fn bench_back(store: &mut [u32], p: u32) -> u64
-    ensures { RequestCall (single (backOf p)) store.old (returned result store.new) }
+    ensures { RequestCall (single (back_of p)) store.old (returned result store.new) }
 {
     pack(back(store, p))
 }

@@ -1,5 +1,5 @@
 // Deliver: a message comes from flight to its target's queue.
-ghost use Rattle.rules.specs.Commands.{deliver as deliverOf};
+ghost use Rattle.rules.specs.Commands.{deliver as deliver_of};
 ghost use Rattle.store.specs.Image.{IsImage};
 ghost use Rattle.calls.specs.Numbers.{CommandCall};
 ghost use Rattle.reading.specs.Reads.{OfState, SendAt};
@@ -16,7 +16,7 @@ use writing::posting::post;
 // The message of the send that is entry i of s.
 fn deliver_send(store: &mut [u32], s: u32, k: u32, i: usize) -> Answer
     requires { IsImage store.old × OfState store.old (SendAt s k i) }
-    ensures { Does (deliverOf s k) store.old store.new result }
+    ensures { Does (deliver_of s k) store.old store.new result }
 {
     let t = target(store, s as usize, i);
     let name = s * NAME_BASE + k;
@@ -29,7 +29,7 @@ fn deliver_send(store: &mut [u32], s: u32, k: u32, i: usize) -> Answer
 
 fn deliver_sound(store: &mut [u32], s: u32, k: u32) -> Answer
     requires { IsImage store.old }
-    ensures { Does (deliverOf s k) store.old store.new result }
+    ensures { Does (deliver_of s k) store.old store.new result }
 {
     if !in_pool(store, s) {
         return Answer::NoMessage;
@@ -42,7 +42,7 @@ fn deliver_sound(store: &mut [u32], s: u32, k: u32) -> Answer
 
 // Message s.k comes from flight to the end of its target's queue.
 pub fn deliver(store: &mut [u32], s: u32, k: u32) -> Answer
-    ensures { CommandCall (deliverOf s k) store.old store.new result }
+    ensures { CommandCall (deliver_of s k) store.old store.new result }
 {
     if !sound(store) {
         return Answer::NotAState;

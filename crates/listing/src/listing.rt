@@ -1,5 +1,5 @@
 // The listing.
-ghost use Rattle.rules.specs.Listing.{listing as listingOf};
+ghost use Rattle.rules.specs.Listing.{listing as listing_of};
 ghost use Rattle.store.specs.Image.{IsImage};
 ghost use Rattle.text.specs.Written.{Wrote};
 ghost use Rattle.calls.specs.Numbers.{Lists};
@@ -14,7 +14,7 @@ use text::listing::write_processes;
 // The listing written from the start of the output, as far as it reaches; the answer is the listing's length.
 fn write_listing(store: &[u32], out: &mut [u8]) -> usize
     requires { IsImage store.now }
-    ensures { OfState store.now (λ s. Wrote (listingOf s) 0 out.old out.new result) }
+    ensures { OfState store.now (λ s. Wrote (listing_of s) 0 out.old out.new result) }
 {
     let count = pool_count(store);
     let to = write_processes(out, 0, count);

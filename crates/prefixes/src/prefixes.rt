@@ -1,10 +1,10 @@
 // Prefixes: words that others begin with, one of them left out.
 ghost use Rattle.std.specs.Prelude.{◌≡◌};
-ghost use Rattle.prefixes.specs.Prefixes.{begins as beginsWith, left_begins};
+ghost use Rattle.prefixes.specs.Prefixes.{begins as begins_with, left_begins};
 
 // Whether a list of words begins with another.
 pub fn begins(front: &[u32], whole: &[u32]) -> bool
-    ensures { result ≡ beginsWith front.now whole.now }
+    ensures { result ≡ begins_with front.now whole.now }
 {
     if whole.len() < front.len() {
         return false;

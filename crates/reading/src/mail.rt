@@ -2,7 +2,7 @@
 ghost use Rattle.std.specs.Prelude.{◌≡◌, [], ◌+◌, ◌*◌, ◌-◌, ◌/◌, ◌%◌, ◌≤◌, length, take, drop};
 ghost use Rattle.lists.specs.Lists.{any, member, up_to};
 ghost use Rattle.rules.specs.State.{as_send, as_rec, history_at, is_named};
-ghost use Rattle.rules.specs.Flight.{count_letter, sends as sendsOf, also_taken, taken, has_come, flies_to, awaited as awaitedOf};
+ghost use Rattle.rules.specs.Flight.{count_letter, sends as sends_of, also_taken, taken, has_come, flies_to, awaited as awaited_of};
 ghost use Rattle.store.specs.Image.{IsImage};
 ghost use Rattle.store.specs.Layout.{name_base};
 ghost use Rattle.reading.specs.Mail.{flies_by};
@@ -71,7 +71,7 @@ fn send_at(store: &[u32], p: usize, i: usize) -> u32
 // How many of the entries older than entry i of p are sends; of all entries, where i is how many there are.
 pub fn sends_before(store: &[u32], p: usize, i: usize) -> u32
     requires { IsImage store.now × OfState store.now (IsPlace p) × OfState store.now (λ s. i ≤ length (history_at s p)) }
-    ensures { OfState store.now (λ s. result ≡ sendsOf (oldest i (history_at s p))) }
+    ensures { OfState store.now (λ s. result ≡ sends_of (oldest i (history_at s p))) }
 {
     let mut count = 0;
     let mut j = 0;
@@ -156,7 +156,7 @@ pub fn has_come(store: &[u32], t: usize, name: u32) -> bool
 
 // Whether entry i of s is a send whose message is in flight to q, where its name would be this one.
 fn flies_to(store: &[u32], s: usize, i: usize, q: u32, name: u32) -> bool
-    requires { IsImage store.now × OfState store.now (IsEntry s i) × OfState store.now (IsPlace q) × OfState store.now (λ st. name ≡ s * name_base + sendsOf (oldest i (history_at st s))) }
+    requires { IsImage store.now × OfState store.now (IsEntry s i) × OfState store.now (IsPlace q) × OfState store.now (λ st. name ≡ s * name_base + sends_of (oldest i (history_at st s))) }
     ensures { OfState store.now (λ st. OfEntry s i (λ e. result ≡ flies_by st q s i (as_send e.kind)) st) }
 {
     if send_at(store, s, i) == 0 {
@@ -171,7 +171,7 @@ fn flies_to(store: &[u32], s: usize, i: usize, q: u32, name: u32) -> bool
 // Whether a message of place s is in flight to q.
 fn awaited_from(store: &[u32], s: usize, q: u32) -> bool
     requires { IsImage store.now × OfState store.now (IsPlace s) × OfState store.now (IsPlace q) }
-    ensures { OfState store.now (λ st. result ≡ any (flies_to st q s) (up_to (sendsOf (history_at st s)))) }
+    ensures { OfState store.now (λ st. result ≡ any (flies_to st q s) (up_to (sends_of (history_at st s)))) }
 {
     let end = entry_count(store, s);
     let mut name = s as u32 * NAME_BASE;
@@ -189,7 +189,7 @@ fn awaited_from(store: &[u32], s: usize, q: u32) -> bool
 // Whether any message is in flight to q.
 pub fn awaited(store: &[u32], q: usize) -> bool
     requires { IsImage store.now × OfState store.now (IsPlace q) }
-    ensures { OfState store.now (λ s. result ≡ awaitedOf s q) }
+    ensures { OfState store.now (λ s. result ≡ awaited_of s q) }
 {
     let end = places(store);
     let mut s = 0;

@@ -1,7 +1,7 @@
 // The layout of the store: its sizes, and where its parts stand.
 ghost use Rattle.std.specs.Prelude.{◌≡◌, true};
 ghost use Rattle.rules.specs.Load.{good_sizes};
-ghost use Rattle.store.specs.Layout.{slot_size, block_size, needed as neededOf};
+ghost use Rattle.store.specs.Layout.{slot_size, block_size, needed as needed_of};
 ghost use Rattle.store.specs.Sizing.{sizes_of};
 
 use checks::module::LONGEST;
@@ -112,7 +112,7 @@ pub fn block_size(places: usize, entries: usize, words: usize) -> usize
 // How many words a store needs.
 pub fn needed(places: usize, entries: usize, words: usize) -> usize
     requires { good_sizes (sizes_of places entries words) ≡ true }
-    ensures { result ≡ neededOf (sizes_of places entries words) }
+    ensures { result ≡ needed_of (sizes_of places entries words) }
 {
     BLOCKS + places * block_size(places, entries, words)
 }

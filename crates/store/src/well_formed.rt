@@ -3,7 +3,7 @@ ghost use Rattle.std.specs.Prelude.{◌≡◌, true, ℕ, ◌+◌, ◌*◌, ◌<
 ghost use borrow.Rule.Slice.PartMut.{mid_of};
 ghost use Rattle.lists.specs.Decides.{Decides};
 ghost use Rattle.rules.specs.Load.{good_sizes};
-ghost use Rattle.store.specs.Layout.{blocks_from, slot_size, slot_count, block_size, needed as neededOf};
+ghost use Rattle.store.specs.Layout.{blocks_from, slot_size, slot_count, block_size, needed as needed_of};
 ghost use Rattle.store.specs.Sizing.{sizes_of};
 ghost use Rattle.store.specs.Formed.{WellSlot, WellSlots, WellFormedStore};
 
@@ -66,7 +66,7 @@ pub fn block_formed(block: &[u32], places: usize, entries: usize, words: usize) 
 
 // Whether the blocks of all places keep the layout.
 pub fn blocks_formed(store: &[u32], places: usize, entries: usize, words: usize) -> bool
-    requires { (good_sizes (sizes_of places entries words) ≡ true) × (neededOf (sizes_of places entries words) ≤ length store.now) }
+    requires { (good_sizes (sizes_of places entries words) ≡ true) × (needed_of (sizes_of places entries words) ≤ length store.now) }
     ensures { Decides ((p : ℕ) → p < places → WellSlots (sizes_of places entries words) (slot_count (sizes_of places entries words)) (mid_of (blocks_from + p * block_size (sizes_of places entries words)) (block_size (sizes_of places entries words)) store.now)) result }
 {
     let size = block_size(places, entries, words);
