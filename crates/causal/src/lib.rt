@@ -1,1 +1,2 @@
 // Definitions and theorems only: specs/ says what a reversible system is, proofs/ shows what follows.
+#![tactic(auto)]

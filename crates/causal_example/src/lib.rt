@@ -1,1 +1,2 @@
 // Definitions and theorems only: a small system that keeps the laws of the crate causal.
+#![tactic(auto)]

@@ -1,1 +1,2 @@
 // Definitions and theorems only: one process step on terms.
+#![tactic(auto)]

@@ -1,3 +1,4 @@
 // Whether words begin with others.
 #![tactic(auto)]
+
 pub mod prefixes;

@@ -1,7 +1,6 @@
 -- Laws of words: the parts of a word that was put together, and a word put together of its parts.
 use Prim.Native.Nat.{ℕ, ◌<◌}
 use mathlib.Core.Path.{◌≡◌, ap}
-use mathlib.Core.List.{List}
 use native.Mathlib.Omega.{arith}
 use Rattle.term.specs.Words.{word, tag_of, n_of, k_of, integer_word, tag_integer}
 

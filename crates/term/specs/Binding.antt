@@ -2,10 +2,10 @@
 -- The words are gone through in order, so the first that breaks a rule has the least position, and of two equal numbers or binders
 -- the later breaks it.
 use Rattle.std.specs.Prelude.{ℕ, suc, ◌+◌, Bool, true, false, cond, not, ◌&&◌, ◌||◌, List, [], ◌∷◌, eqb}
-use Rattle.std.proofs.Math.Option.{Option, none, some}
+use Rattle.std.proofs.Math.Option.{none, some}
 use Rattle.std.proofs.Math.ListN.{get_elem?}
 use Rattle.lists.specs.Lists.{member, up_to}
-use Rattle.term.specs.Words.{tag_variable, tag_apply, tag_spawn, tag_let, tag_check, tag_clause, tag_function}
+use Rattle.term.specs.Words.{tag_variable, tag_apply, tag_spawn, tag_let, tag_check, tag_clause}
 use Rattle.term.specs.Tree.{Term, Terms, int, node, end, ◌then◌}
 
 -- what going through some words comes to: the position of a word that breaks a rule; or the position after them, with the variables

@@ -1,6 +1,6 @@
 -- 01's cases on modules, computed; and one for each part of the module check.
-use Rattle.std.specs.Prelude.{ℕ, ◌≡◌, refl, List, [], ◌∷◌, replicate}
-use Rattle.std.proofs.Math.Option.{Option, none, some}
+use Rattle.std.specs.Prelude.{◌≡◌, refl, [], ◌∷◌, replicate}
+use Rattle.std.proofs.Math.Option.{none, some}
 use Rattle.term.specs.Module.{check_module}
 
 -- "P: module 12000000 alone: 1 at 1. 12010000 01000000: 1 at 0. 12000000 01000000: 1 at 1."

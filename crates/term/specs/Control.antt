@@ -1,7 +1,7 @@
 -- Controls. 01: they "are closed, well shaped, keep the module's binding rules, may hold pids outside patterns (and any values in
 -- guards), and name functions rightly".
-use Rattle.std.specs.Prelude.{ℕ, Bool, true, false, List, [], ◌∷◌}
-use Rattle.std.proofs.Math.Option.{Option, none, some}
+use Rattle.std.specs.Prelude.{ℕ, Bool, true, false, List, []}
+use Rattle.std.proofs.Math.Option.{none, some}
 use Rattle.term.specs.Tree.{Term}
 use Rattle.term.specs.Read.{term_of, terms_of}
 use Rattle.term.specs.Shape.{control_shape}

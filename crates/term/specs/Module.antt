@@ -1,5 +1,5 @@
 -- Modules: the check that load makes, and the functions of a module.
-use Rattle.std.specs.Prelude.{ℕ, zero, suc, Bool, true, false, List, [], ◌∷◌, eqb, ltb, length}
+use Rattle.std.specs.Prelude.{ℕ, zero, suc, true, false, List, [], ◌∷◌, eqb, ltb, length}
 use Rattle.std.proofs.Math.Option.{Option, none, some}
 use Rattle.lists.specs.Lists.{member, up_to}
 use Rattle.term.specs.Table.{table, row_of, child_count, arity, tags_at, k_limit, fits, own_spot, spots_below, child_spots}

@@ -1,5 +1,5 @@
 -- Reading terms off a row of words, in order.
-use Rattle.std.specs.Prelude.{ℕ, zero, suc, ◌+◌, pred, Bool, true, false, List, [], ◌∷◌, eqb}
+use Rattle.std.specs.Prelude.{ℕ, zero, suc, ◌+◌, pred, true, false, List, [], ◌∷◌, eqb}
 use Rattle.std.proofs.Math.Option.{Option, none, some}
 use Rattle.term.specs.Words.{tag_of, n_of, k_of, integer_word}
 use Rattle.term.specs.Table.{arity}

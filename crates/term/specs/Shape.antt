@@ -1,5 +1,5 @@
 -- Shape. 01: "the first word at which reading in order fails, the length if words run out".
-use Rattle.std.specs.Prelude.{ℕ, suc, Bool, true, false, List, [], ◌∷◌, ◌++◌, eqb}
+use Rattle.std.specs.Prelude.{ℕ, suc, true, false, List, [], ◌∷◌, ◌++◌, eqb}
 use Rattle.std.proofs.Math.Option.{Option, none, some}
 use Rattle.term.specs.Words.{tag_of, tag_integer}
 use Rattle.term.specs.Table.{in_module, fits, child_spots, spot_function, spot_expression}

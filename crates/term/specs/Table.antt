@@ -1,5 +1,5 @@
 -- The table of the 18 tags, and the spots where a tag may stand.
-use Rattle.std.specs.Prelude.{ℕ, suc, Bool, true, false, cond, not, ◌&&◌, List, [], ◌∷◌, ◌++◌, eqb, leb, ltb, get_or, replicate}
+use Rattle.std.specs.Prelude.{ℕ, suc, Bool, cond, not, ◌&&◌, List, [], ◌∷◌, eqb, leb, ltb, get_or, replicate}
 use Rattle.lists.specs.Lists.{member}
 use Rattle.term.specs.Words.{tag_of, n_of, k_of}
 use Rattle.term.specs.Words.{tag_variable, tag_atom, tag_integer, tag_pid, tag_nil, tag_cons, tag_tuple, tag_call, tag_apply, tag_case, tag_let, tag_receive, tag_spawn, tag_send, tag_self, tag_check, tag_clause, tag_function}

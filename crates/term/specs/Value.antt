@@ -1,5 +1,5 @@
 -- Values.
-use Rattle.std.specs.Prelude.{Bool, true, false, ◌&&◌, leb}
+use Rattle.std.specs.Prelude.{Bool, true, ◌&&◌, leb}
 use Rattle.term.specs.Words.{tag_atom, tag_tuple}
 use Rattle.term.specs.Tree.{Term, Terms, int, node, end, ◌then◌}
 
