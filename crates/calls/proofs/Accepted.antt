@@ -8,7 +8,7 @@ use Rattle.lists.proofs.Tests.{none_not_some, some_injective}
 use Rattle.causal.specs.Paths.{done as run_done, more}
 use Rattle.causal.proofs.Runs.{run_append}
 use Rattle.causal.proofs.Exec.{of_run, to_run}
-use Rattle.rules.specs.Answers.{done, not_aState}
+use Rattle.rules.specs.Answers.{done, not_a_state}
 use Rattle.rules.specs.State.{State}
 use Rattle.rules.specs.Commands.{Command, Plan, refuse, accept, apply, run, after_plan, run_state}
 use Rattle.rules.specs.Sound.{Sound}
@@ -25,7 +25,7 @@ use Rattle.calls.specs.Calls.{outcome, count_in, stored, RequestCall}
 use Rattle.calls.specs.Promises.{RollbackStored}
 
 -- the numbers of refusals lie between `done` and 15
-pub refused_between : {s : State} {c : Command} {n : ℕ} → Refused s c n → (done < n) × (n < not_aState)
+pub refused_between : {s : State} {c : Command} {n : ℕ} → Refused s c n → (done < n) × (n < not_a_state)
 refused_between (not_in_pool a b) = (omega arith, omega arith)
 refused_between (is_finished a b) = (omega arith, omega arith)
 refused_between (step_at_spawn a) = (omega arith, omega arith)
@@ -43,7 +43,7 @@ refused_between (no_message_queued a b) = (omega arith, omega arith)
 refused_between (entry_held a b) = (omega arith, omega arith)
 refused_between (message_held a b d) = (omega arith, omega arith)
 
-pub rollback_below : {s end : State} {p t a n : ℕ} → Rollback s p t a n end → a < not_aState
+pub rollback_below : {s end : State} {p t a n : ℕ} → Rollback s p t a n end → a < not_a_state
 rollback_below (is_done a b d) = omega arith
 rollback_below (is_held a b d) = omega arith
 rollback_below (no_check a b) = omega arith
@@ -131,13 +131,13 @@ reach_request (single c) s r = reach_plan s c (run c s) r refl
 reach_request (rollback_to p t) s r =
     subst Reachable (sym (rolled_after s (rollback p t s))) (reach_rollback (demand2.rollback_allowed s p t (consequences.sound.reached s r)) r)
 
-below_plan : (s : State) (c : Command) (plan : Plan) → Sound s → run c s ≡ plan → (of_plan s plan).number < not_aState
+below_plan : (s : State) (c : Command) (plan : Plan) → Sound s → run c s ≡ plan → (of_plan s plan).number < not_a_state
 unfolding of_plan
 below_plan s c (refuse number) sound e = (refused_between ((demand2.refused_is_listed s c number sound).0 e)).1
 below_plan s c (accept deed move) sound e = omega arith
 
-pub below_request : (request : Request) (s : State) (rest : List ℕ) → Sound s → (stored (perform request s) rest).number < not_aState
+pub below_request : (request : Request) (s : State) (rest : List ℕ) → Sound s → (stored (perform request s) rest).number < not_a_state
 unfolding perform stored
 below_request (single c) s rest sound = below_plan s c (run c s) sound refl
 below_request (rollback_to p t) s rest sound =
-    subst (λ (x : Outcome). x.number < not_aState) (sym (rolled_stored s rest (rollback p t s))) (rollback_below (demand2.rollback_allowed s p t sound))
+    subst (λ (x : Outcome). x.number < not_a_state) (sym (rolled_stored s rest (rollback p t s))) (rollback_below (demand2.rollback_allowed s p t sound))

@@ -12,7 +12,7 @@ use Rattle.lists.proofs.Tests.{leb_of}
 use Rattle.lists.proofs.Lists.{keep_fewer, joined_next}
 use Rattle.lists.proofs.All.{all_left, all_joined, all_map, all_so, all_any}
 use Rattle.lists.proofs.Blocks.{length_up_to}
-use Rattle.rules.specs.Answers.{done, not_aState, no_room}
+use Rattle.rules.specs.Answers.{done, not_a_state, no_room}
 use Rattle.rules.specs.State.{Message, Process, State, history_of, history_at, in_pool}
 use Rattle.rules.specs.Flight.{Name, name, sends, taken, is_flying, flight_of, flight}
 use Rattle.rules.specs.Sound.{SentTo, Sound}
@@ -134,7 +134,7 @@ has_room store out o room call e =
     let is = ap (λ (y : Outcome). y.number) (call.on_image x.state x.rest x.sound x.words) in
     let fits = listing_most x.state x.sound in
     omega (arith, is, e, listed_done (listing x.state) out (omega (arith, fits, room))) in
-    let refused : o.number ≡ not_aState = ap (λ (y : Outcome). y.number) (call.elsewhere none_there) in
+    let refused : o.number ≡ not_a_state = ap (λ (y : Outcome). y.number) (call.elsewhere none_there) in
     omega (arith, refused, e)
 
 pub listing_room_lem : ListingRoom

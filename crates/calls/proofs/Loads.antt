@@ -11,7 +11,7 @@ use lib.ListN.{length, drop}
 use Rattle.lists.proofs.Tests.{true_or_false, and_left}
 use Rattle.causal.specs.Exec.{run_all}
 use Rattle.term.specs.Module.{check_module}
-use Rattle.rules.specs.Answers.{done, bad_module, bad_sizes, held, not_aState, bad_line}
+use Rattle.rules.specs.Answers.{done, bad_module, bad_sizes, held, not_a_state, bad_line}
 use Rattle.rules.specs.State.{Sizes, State}
 use Rattle.rules.specs.Load.{good_sizes, loaded, Load, refused, loads, load}
 use Rattle.rules.specs.Sound.{Sound}
@@ -89,29 +89,29 @@ reached_store l (by_refused_load module' entry sizes o before call n) = subst Re
 reached_store l (by_request entry request o before call) = request_reached request entry o (reached_store entry before) call
 reached_store l (by_line entry line o before call) = asked_reached (parse_line line) entry o (reached_store entry before) call
 
-request_answers : (request : Request) (l : List ℕ) (o : Outcome) → ReachedStore l → RequestCall request l o → o.number ≢ not_aState
+request_answers : (request : Request) (l : List ℕ) (o : Outcome) → ReachedStore l → RequestCall request l o → o.number ≢ not_a_state
 request_answers request l o x call e =
     let below = below_request request x.state x.rest (reached_sound x.state x.reached) in
     let same = ap (λ (y : Outcome). y.number) (of_request request l o x call) in
     absurd (omega (arith, below, same, e))
 
-asked_answers : (asked : Option Request) (l : List ℕ) (o : Outcome) → ReachedStore l → AskedCall asked l o → o.number ≢ not_aState
+asked_answers : (asked : Option Request) (l : List ℕ) (o : Outcome) → ReachedStore l → AskedCall asked l o → o.number ≢ not_a_state
 unfolding AskedCall
 asked_answers none l o x call e = let same : o.number ≡ bad_line = ap (λ (y : Outcome). y.number) call in absurd (omega (arith, same, e))
 asked_answers (some request) l o x call e = request_answers request l o x call e
 
-line_answers : (line l : List ℕ) (o : Outcome) → ReachedStore l → LineCall line l o → o.number ≢ not_aState
+line_answers : (line l : List ℕ) (o : Outcome) → ReachedStore l → LineCall line l o → o.number ≢ not_a_state
 unfolding LineCall
 line_answers line l o x call = asked_answers (parse_line line) l o x call
 
-pub written_answers : (text out : List ℕ) → (written text out).number ≢ not_aState
+pub written_answers : (text out : List ℕ) → (written text out).number ≢ not_a_state
 unfolding written
 written_answers text out e = elim (true_or_false (leb (length text) (length out))) [
   | inl fits ↦ let zero' : ◌≡◌ {A = ℕ} 0 15 = rw (fits, written) at e in absurd (omega (arith, zero'))
   | inr short ↦ let sixteen : ◌≡◌ {A = ℕ} 16 15 = rw (short, written) at e in absurd (omega (arith, sixteen))
 ]
 
-listing_answers : (l out : List ℕ) (o : Outcome) → ReachedStore l → ListingCall l out o → o.number ≢ not_aState
+listing_answers : (l out : List ℕ) (o : Outcome) → ReachedStore l → ListingCall l out o → o.number ≢ not_a_state
 unfolding ListingCall
 listing_answers l out o x call e =
     let same = call.on_image x.state x.rest (reached_sound x.state x.reached) x.words in

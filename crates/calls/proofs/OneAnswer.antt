@@ -4,7 +4,7 @@ use mathlib.Core.Path.{◌≡◌, refl, sym, ◌∙◌, ap}
 use mathlib.Core.Bool.{cond}
 use mathlib.Core.List.{List}
 use lib.Dec.{eqb}
-use Rattle.rules.specs.Answers.{done, no_process, finished, waiting, stuck, wrong_command, place_taken, too_large, history_full, no_message, nothing_to_undo, held, no_checkpoint, not_aState, no_room}
+use Rattle.rules.specs.Answers.{done, no_process, finished, waiting, stuck, wrong_command, place_taken, too_large, history_full, no_message, nothing_to_undo, held, no_checkpoint, not_a_state, no_room}
 use Rattle.store.specs.Loading.{Outcome}
 use Rattle.calls.specs.Calls.{outcome}
 use Rattle.calls.specs.Numbers.{number_of, value_of, Performs, TextCall, Lists}
@@ -29,7 +29,7 @@ answer_of number value =
     (cond (eqb number nothing_to_undo) NothingToUndo
     (cond (eqb number held) Held
     (cond (eqb number no_checkpoint) NoCheckpoint
-    (cond (eqb number not_aState) NotAState
+    (cond (eqb number not_a_state) NotAState
     (cond (eqb number no_room) NoRoom BadLine))))))))))))))
 
 told : (r : Answer) → answer_of (number_of r) (value_of r) ≡ r

@@ -6,7 +6,7 @@ use mathlib.Core.List.{List, ◌++◌}
 use native.Mathlib.Omega.{arith}
 use lib.ListN.{length, take, get_or, get_or-append}
 use lib.Seq.{take-append_seam}
-use Rattle.rules.specs.Answers.{not_aState, bad_line}
+use Rattle.rules.specs.Answers.{not_a_state, bad_line}
 use Rattle.rules.specs.State.{Sizes, State}
 use Rattle.rules.specs.Line.{Request, parse_line}
 use Rattle.rules.specs.Listing.{listing}
@@ -41,29 +41,29 @@ same_image l rest rest' long x =
     record { state = x.state; rest = rest'; sound = x.sound; words = ap (λ (z : List ℕ). z ++ rest') same }
 
 -- a store answered 15 is no image
-refused_request : (request : Request) (l : List ℕ) (o : Outcome) → RequestCall request l o → o.number ≡ not_aState → ¬ IsImage l
+refused_request : (request : Request) (l : List ℕ) (o : Outcome) → RequestCall request l o → o.number ≡ not_a_state → ¬ IsImage l
 unfolding RequestCall
 refused_request request l o call e x =
     let same = ap (λ (y : Outcome). y.number) (call.on_image x.state x.rest x.sound x.words) in
     omega (arith, below_request request x.state x.rest x.sound, same, e)
 
-past_request : (request : Request) (l rest rest' : List ℕ) (o o' : Outcome) → Needed l → RequestCall request (l ++ rest) o → o.number ≡ not_aState
+past_request : (request : Request) (l rest rest' : List ℕ) (o o' : Outcome) → Needed l → RequestCall request (l ++ rest) o → o.number ≡ not_a_state
     → RequestCall request (l ++ rest') o' → o' ≡ refused_store (l ++ rest')
 unfolding RequestCall
 past_request request l rest rest' o o' long call e call' = call'.elsewhere (λ x. refused_request request (l ++ rest) o call e (same_image l rest' rest long x))
 
-past_asked : (asked : Option Request) (l rest rest' : List ℕ) (o o' : Outcome) → Needed l → AskedCall asked (l ++ rest) o → o.number ≡ not_aState
+past_asked : (asked : Option Request) (l rest rest' : List ℕ) (o o' : Outcome) → Needed l → AskedCall asked (l ++ rest) o → o.number ≡ not_a_state
     → AskedCall asked (l ++ rest') o' → o' ≡ refused_store (l ++ rest')
 unfolding AskedCall
 past_asked none l rest rest' o o' long call e call' = let same : o.number ≡ bad_line = ap (λ (y : Outcome). y.number) call in absurd (omega (arith, same, e))
 past_asked (some request) l rest rest' o o' long call e call' = past_request request l rest rest' o o' long call e call'
 
-past_line : (line l rest rest' : List ℕ) (o o' : Outcome) → Needed l → LineCall line (l ++ rest) o → o.number ≡ not_aState
+past_line : (line l rest rest' : List ℕ) (o o' : Outcome) → Needed l → LineCall line (l ++ rest) o → o.number ≡ not_a_state
     → LineCall line (l ++ rest') o' → o' ≡ refused_store (l ++ rest')
 unfolding LineCall
 past_line line = past_asked (parse_line line)
 
-past_listing : (l rest rest' out : List ℕ) (o o' : Outcome) → Needed l → ListingCall (l ++ rest) out o → o.number ≡ not_aState
+past_listing : (l rest rest' out : List ℕ) (o o' : Outcome) → Needed l → ListingCall (l ++ rest) out o → o.number ≡ not_a_state
     → ListingCall (l ++ rest') out o' → o' ≡ refused_store out
 unfolding ListingCall
 past_listing l rest rest' out o o' long call e call' = call'.elsewhere λ x.

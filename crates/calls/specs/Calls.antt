@@ -1,7 +1,7 @@
 -- What each public call answers and leaves, for all inputs.
 use Rattle.std.specs.Prelude.{ℕ, ◌≡◌, true, false, List, ◌++◌, leb, length, drop}
 use Rattle.std.proofs.Math.Option.{Option, none, some}
-use Rattle.rules.specs.Answers.{done, not_aState, no_room, bad_line}
+use Rattle.rules.specs.Answers.{done, not_a_state, no_room, bad_line}
 use Rattle.rules.specs.State.{Sizes, State}
 use Rattle.rules.specs.Sound.{Sound}
 use Rattle.rules.specs.Line.{Request, parse_line}
@@ -23,7 +23,7 @@ pub record OfStore (entry : List ℕ) (of : State → List ℕ → Outcome) (oth
 
 -- 15, "store isn't the image of a sound state"; what the call could have written is as it was
 abbrev pub refused_store : List ℕ → Outcome
-refused_store left = outcome not_aState 0 left
+refused_store left = outcome not_a_state 0 left
 
 -- "rollback adds the count of events undone"; "Positions and counts are 0 elsewhere."
 unfoldable pub count_in : Option ℕ → ℕ

@@ -2,7 +2,7 @@
 use Rattle.std.specs.Prelude.{ℕ, ◌+◌, ◌*◌, List}
 use Rattle.rules.specs.Commands.{Command}
 use Rattle.rules.specs.Line.{Request, single, rollback_to}
-use Rattle.rules.specs.Answers.{done, no_process, finished, waiting, stuck, wrong_command, place_taken, too_large, history_full, no_message, nothing_to_undo, held, no_checkpoint, not_aState, no_room, bad_line}
+use Rattle.rules.specs.Answers.{done, no_process, finished, waiting, stuck, wrong_command, place_taken, too_large, history_full, no_message, nothing_to_undo, held, no_checkpoint, not_a_state, no_room, bad_line}
 use Rattle.calls.specs.Calls.{outcome, RequestCall, LineCall, ListingCall}
 use Rattle.calls.specs.declared.answers.Answer.{Answer}
 use Rattle.calls.specs.declared.answers.Answer.TheVariants.{Done, NoProcess, Finished, Waiting, Stuck, WrongCommand, PlaceTaken, TooLarge, HistoryFull, NoMessage, NothingToUndo, Held, NoCheckpoint, NotAState, NoRoom, BadLine}
@@ -21,7 +21,7 @@ number_of NoMessage = no_message
 number_of NothingToUndo = nothing_to_undo
 number_of Held = held
 number_of NoCheckpoint = no_checkpoint
-number_of NotAState = not_aState
+number_of NotAState = not_a_state
 number_of NoRoom = no_room
 number_of BadLine = bad_line
 

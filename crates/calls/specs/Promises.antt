@@ -1,6 +1,6 @@
 -- What follows from the contracts of the calls, and nothing else. Each statement is shown by its name in proofs/.
 use Rattle.std.specs.Prelude.{ℕ, ◌≡◌, ◌≢◌, true, List, [], ◌∷◌, ◌++◌, length}
-use Rattle.rules.specs.Answers.{done, held, not_aState}
+use Rattle.rules.specs.Answers.{done, held, not_a_state}
 use Rattle.rules.specs.State.{Sizes, State}
 use Rattle.rules.specs.Load.{loaded}
 use Rattle.rules.specs.Commands.{Command, step}
@@ -70,9 +70,9 @@ pub record ReachedStore (l : List ℕ) : Type 0 where
 pub record AfterALoad : Type 0 where
   pub reached : (l : List ℕ) → Served l → ReachedStore l
   -- no call is answered 15
-  pub request : (request : Request) (l : List ℕ) (o : Outcome) → Served l → RequestCall request l o → o.number ≢ not_aState
-  pub line : (line l : List ℕ) (o : Outcome) → Served l → LineCall line l o → o.number ≢ not_aState
-  pub listing : (l out : List ℕ) (o : Outcome) → Served l → ListingCall l out o → o.number ≢ not_aState
+  pub request : (request : Request) (l : List ℕ) (o : Outcome) → Served l → RequestCall request l o → o.number ≢ not_a_state
+  pub line : (line l : List ℕ) (o : Outcome) → Served l → LineCall line l o → o.number ≢ not_a_state
+  pub listing : (l out : List ℕ) (o : Outcome) → Served l → ListingCall l out o → o.number ≢ not_a_state
   -- "After a load, rollback never gives 13."
   pub rollback : (p t : ℕ) (l : List ℕ) (o : Outcome) → Served l → RequestCall (rollback_to p t) l o → o.number ≢ held
 

@@ -10,7 +10,7 @@ use lib.Dec.{leb}
 use lib.ListN.{length, take, drop}
 use lib.Seq.{take-append_seam}
 use Rattle.lists.proofs.Tests.{true_or_false, and_of, leb_of}
-use Rattle.rules.specs.Answers.{done, bad_sizes, not_aState, no_room, bad_line}
+use Rattle.rules.specs.Answers.{done, bad_sizes, not_a_state, no_room, bad_line}
 use Rattle.rules.specs.State.{Sizes, State}
 use Rattle.rules.specs.Load.{good_sizes, Load, loads, load}
 use Rattle.rules.specs.Load as rules-load
@@ -54,7 +54,7 @@ module _ (line : List ℕ) (lines : List (List ℕ)) where
   unfolding without_state
   without_none e = rw (e, without_state) refl
 
-  without_some : (request : Request) → parse_line line ≡ some request → without_state (line ∷ lines) ≡ answer_line not_aState ++ without_state lines
+  without_some : (request : Request) → parse_line line ≡ some request → without_state (line ∷ lines) ≡ answer_line not_a_state ++ without_state lines
   unfolding without_state
   without_some request e = rw (e, without_state) refl
 
@@ -110,9 +110,9 @@ module _ (line : List ℕ) (lines : List (List ℕ)) (a : Answer) (entry exit te
       (λ i. r i ++ p.elsewhere (subst (λ (x : List ℕ). ¬ IsImage x) (sym l) empty) i) ∙ sym (without_none line lines e)
   said_elsewhere (some request) e call p empty =
       let same = call.elsewhere empty in
-      let n : number_of a ≡ not_aState = ap (λ (o : Outcome). o.number) same in
+      let n : number_of a ≡ not_a_state = ap (λ (o : Outcome). o.number) same in
       let l : exit ≡ entry = ap (λ (o : Outcome). o.left) same in
-      let r : reply_text (some request) a ≡ answer_line not_aState = refused_is (some request) a not_aState n (λ z. absurd (omega (arith, z))) in
+      let r : reply_text (some request) a ≡ answer_line not_a_state = refused_is (some request) a not_a_state n (λ z. absurd (omega (arith, z))) in
       (λ i. r i ++ p.elsewhere (subst (λ (x : List ℕ). ¬ IsImage x) (sym l) empty) i) ∙ sym (without_some line lines request e)
 
 -- the reply to a line, and then what is printed for the lines that follow

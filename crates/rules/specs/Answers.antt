@@ -46,8 +46,8 @@ held = 13
 abbrev pub no_checkpoint : ℕ
 no_checkpoint = 14
 
-abbrev pub not_aState : ℕ
-not_aState = 15
+abbrev pub not_a_state : ℕ
+not_a_state = 15
 
 abbrev pub no_room : ℕ
 no_room = 16

@@ -1,7 +1,7 @@
 -- What the program bench replies to command lines.
 use Rattle.std.specs.Prelude.{ℕ, List, [], ◌∷◌, ◌++◌}
 use Rattle.std.proofs.Math.Option.{Option, none, some}
-use Rattle.rules.specs.Answers.{done, not_aState, bad_line}
+use Rattle.rules.specs.Answers.{done, not_a_state, bad_line}
 use Rattle.rules.specs.State.{State}
 use Rattle.rules.specs.Load.{Load, loads}
 use Rattle.rules.specs.Commands.{Plan, refuse, accept, apply, run}
@@ -55,7 +55,7 @@ unfoldable pub without_state : List (List ℕ) → List ℕ
 without_state [] = []
 without_state (text ∷ texts) = elim (parse_line text) [
   | none ↦ answer_line bad_line ++ without_state texts
-  | some request ↦ answer_line not_aState ++ without_state texts
+  | some request ↦ answer_line not_a_state ++ without_state texts
 ]
 
 unfoldable pub after_load : Load → List (List ℕ) → List ℕ

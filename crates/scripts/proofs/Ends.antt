@@ -8,7 +8,7 @@ use native.Mathlib.Decide.{dec_le}
 use lib.Dec.{leb}
 use lib.ListN.{length}
 use Rattle.lists.proofs.Tests.{true_or_false, leb-true}
-use Rattle.rules.specs.Answers.{done, no_room, not_aState}
+use Rattle.rules.specs.Answers.{done, no_room, not_a_state}
 use Rattle.rules.specs.Listing.{listing}
 use Rattle.store.specs.Image.{IsImage}
 use Rattle.store.specs.Loading.{Outcome}
@@ -38,6 +38,6 @@ listing_ends store old new a n call is long = elim (dec_le n (length old)) [
       let within = written_ends (listing x.state) old (sym (ap (λ (o : Outcome). o.number) same) ∙ number) in
       let length-is = ap (λ (o : Outcome). o.value) same in
       absurd (omega (arith, g, within, length-is, value)) in
-      let fifteen : ◌≡◌ {A = ℕ} not_aState done = sym (ap (λ (o : Outcome). o.number) (call.elsewhere no_image)) ∙ number in
+      let fifteen : ◌≡◌ {A = ℕ} not_a_state done = sym (ap (λ (o : Outcome). o.number) (call.elsewhere no_image)) ∙ number in
       absurd (omega (arith, fifteen))
 ]
