@@ -1,3 +1,4 @@
 // The clause that takes a value.
 #![tactic(auto)]
+
 pub mod clause;

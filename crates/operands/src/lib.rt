@@ -1,5 +1,6 @@
 // Operators on numbers and values, and guards.
 #![tactic(auto)]
+
 pub mod guard;
 pub mod integer;
 pub mod operand;

@@ -1,4 +1,5 @@
 // Command lines read.
 #![tactic(auto)]
+
 pub mod lines;
 pub mod parsing;

@@ -1,5 +1,6 @@
 // The store: the one image of a state in a lent slice.
 #![tactic(auto)]
+
 pub mod fill;
 pub mod layout;
 pub mod load;

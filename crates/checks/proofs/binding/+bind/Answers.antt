@@ -1,6 +1,5 @@
 -- `checks::binding::bind` meets its contract.
 use Rattle.checks.proofs.BindLaws.{bind_none, bind_past, bind_short, bind_integer, bind_node, bind_out, bind_again, bind_new}
-use Prim.Native.Nat.{◌-◌}
 use Rattle.checks.proofs.binding.+bind.Goals as goal
 
 pub returns-then-owed-eq0 : goal.returns-then-owed-eq0

@@ -4,7 +4,6 @@ use native.Mathlib.Omega.{arith}
 use mathlib.Core.Path.{refl}
 use Rattle.checks.proofs.WalkLaws.{both_broke, both_done, onward_past}
 use Rattle.checks.proofs.PlainLaws.{plain_all, plain_broke, opened_inside, opened_more, falls_bound, falls_let, falls_clause, opened_let_broke, opened_let_done, opened_clause_broke, opened_clause_done}
-use Prim.Native.Nat.{◌-◌}
 use Rattle.checks.proofs.binding.+keep_keep_both.Goals as goal
 
 pub keep-offset_bounds-row-opens : goal.keep-offset_bounds-row-opens

@@ -1,5 +1,4 @@
 -- `checks::binding::keep_plain` meets its contract.
-use Prim.Native.Nat.{◌-◌}
 use mathlib.Core.Path.{ap}
 use mathlib.Core.Bool.{not}
 use borrow.Author.Rules.{rules}

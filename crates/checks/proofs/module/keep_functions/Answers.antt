@@ -1,5 +1,4 @@
 -- `checks::module::keep_functions` meets its contract.
-use Prim.Native.Nat.{◌-◌}
 use native.Mathlib.Omega.{arith}
 use Rattle.checks.proofs.RuleLaws.{going_start, going_done, going_breaks, going_next}
 use Rattle.checks.proofs.WalkLaws.{onward_past}

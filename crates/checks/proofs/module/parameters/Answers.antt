@@ -1,5 +1,4 @@
 -- `checks::module::parameters` meets its contract.
-use Prim.Native.Nat.{◌-◌}
 use native.Mathlib.Omega.{arith}
 use borrow.Author.Rules.{rules}
 use Rattle.lists.specs.Lists.{up_to}

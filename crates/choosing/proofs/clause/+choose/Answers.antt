@@ -1,5 +1,4 @@
 -- `choose` meets its contract.
-use Prim.Native.Nat.{◌-◌}
 use Rattle.choosing.proofs.RowClause.{choose_none, choose_past, choose_takes, choose_broken, choose_next}
 use Rattle.choosing.proofs.clause.+choose.Goals as goal
 

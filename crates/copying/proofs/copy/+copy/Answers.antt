@@ -1,5 +1,4 @@
 -- `copy` meets its contract.
-use Prim.Native.Nat.{◌-◌}
 use Rattle.copying.proofs.RowCopy.{copy_none, copy_past, copy_full, copy_value, copy_short, copy_integer, copy_node}
 use Rattle.copying.proofs.copy.+copy.Goals as goal
 

@@ -1,6 +1,5 @@
 -- `copy_words` meets its contract.
 use borrow.Author.Rules.{rules}
-use Prim.Native.Nat.{◌-◌}
 use native.Mathlib.Omega.{arith}
 use Rattle.copying.proofs.RowWrite.{wrote_none, words_more, words_all_written}
 use Rattle.copying.proofs.copy.copy_words.Goals as goal

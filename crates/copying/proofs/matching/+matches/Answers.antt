@@ -1,5 +1,4 @@
 -- `matches` meets its contract.
-use Prim.Native.Nat.{◌-◌}
 use lib.ListN.{length-set}
 use mathlib.Core.Path.{◌∙◌}
 use Rattle.copying.proofs.RowMatch.{match_none, match_past, match_past_value, match_high, match_var, match_differ, match_cut, match_cut_value, match_integers_differ, match_integers, match_nodes}

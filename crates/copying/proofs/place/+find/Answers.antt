@@ -1,6 +1,5 @@
 -- `find` meets its contract.
 use borrow.Author.Rules.{rules}
-use Prim.Native.Nat.{◌-◌}
 use Rattle.copying.proofs.RowPlace.{found_none, found_in, found_few}
 use Rattle.copying.proofs.place.+find.Goals as goal
 

@@ -1,5 +1,4 @@
 -- `past_values` meets its contract.
-use Prim.Native.Nat.{◌-◌}
 use borrow.Author.Rules.{rules}
 use Rattle.lists.proofs.Tests.{not_true, not_false}
 use Rattle.copying.proofs.RowPlace.{seeks_start, seeks_none, seeks_past, seeks_short, seeks_integer, seeks_work, seeks_value}

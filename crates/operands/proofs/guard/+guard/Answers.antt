@@ -1,5 +1,4 @@
 -- `guard` meets its contract.
-use Prim.Native.Nat.{◌-◌}
 use Rattle.operands.proofs.RowGuard.{guard_past, guard_variable, guard_value, guard_broken, guard_call}
 use Rattle.operands.proofs.guard.+guard.Goals as goal
 

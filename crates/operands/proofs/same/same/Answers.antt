@@ -1,5 +1,4 @@
 -- `same` meets its contract.
-use Prim.Native.Nat.{◌-◌}
 use Rattle.operands.proofs.RowSame.{goes_start, goes_none, goes_past, goes_past_other, goes_differ, goes_cut, goes_cut_other, goes_integers_differ, goes_integers, goes_nodes}
 use Rattle.operands.proofs.same.same.Goals as goal
 

@@ -1,5 +1,4 @@
 -- `piece_end` meets its contract.
-use Prim.Native.Nat.{◌-◌}
 use Rattle.parsing.proofs.PieceLaws.{end_here, end_on, end_over}
 use Rattle.parsing.proofs.lines.piece_end.Goals as goal
 

@@ -1,6 +1,5 @@
 -- `begins` meets its contract.
 use borrow.Author.Rules.{rules}
-use Prim.Native.Nat.{◌-◌}
 use Rattle.parsing.proofs.CommandLaws.{begins_short, begins_not, begins_more, begins_all}
 use Rattle.parsing.proofs.parsing.begins.Goals as goal
 

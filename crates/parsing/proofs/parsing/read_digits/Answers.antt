@@ -1,6 +1,5 @@
 -- `read_digits` meets its contract.
 use borrow.Author.Rules.{rules}
-use Prim.Native.Nat.{◌-◌}
 use Rattle.parsing.proofs.NumberLaws.{digits_low, digits_high, digits_more, digits_large, digits_all}
 use Rattle.parsing.proofs.parsing.read_digits.Goals as goal
 

@@ -1,5 +1,4 @@
 -- `rows::terms::skip` meets its contract.
-use Prim.Native.Nat.{◌-◌}
 use mathlib.Core.Path.{refl}
 use Rattle.rows.proofs.SkipLaws.{skip_none, skip_past, skip_out, skip_integer, skip_node}
 use Rattle.rows.proofs.terms.skip.Goals as goal

@@ -3,7 +3,6 @@ use borrow.Author.Rules.{rules}
 use native.Mathlib.Omega.{arith}
 use mathlib.Core.Path.{refl}
 use Rattle.shape.proofs.ReadingLaws.{run_ends, run_fails, turned_inside, turned_more, falls_first, falls_second, falls_third, falls_fourth, first_fails, second_fails, third_fails, turned_done}
-use Prim.Native.Nat.{◌-◌}
 use Rattle.shape.proofs.shape.+read.Goals as goal
 
 pub offset_bounds-row-turn : goal.offset_bounds-row-turn

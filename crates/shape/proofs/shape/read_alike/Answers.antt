@@ -1,5 +1,4 @@
 -- `shape::shape::read_alike` meets its contract.
-use Prim.Native.Nat.{◌-◌}
 use Rattle.shape.proofs.ReadingLaws.{comes_start, comes_common, comes_integer, comes_alike, alike_ends, alike_past, alike_misfit, alike_cut, alike_turns}
 use Rattle.shape.proofs.shape.read_alike.Goals as goal
 

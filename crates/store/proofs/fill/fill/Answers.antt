@@ -1,5 +1,4 @@
 -- `fill` meets its contract.
-use Prim.Native.Nat.{◌-◌}
 use mathlib.Core.Path.{◌≡◌, sym, ◌∙◌}
 use mathlib.Core.List.{append-nil}
 use native.Mathlib.Omega.{arith}

@@ -1,5 +1,4 @@
 -- `block_formed` meets its contract.
-use Prim.Native.Nat.{◌-◌}
 use Rattle.store.specs.Sizing.{sizes_of}
 use Rattle.store.proofs.WellTestBlock.{SlotsLeft}
 use Rattle.store.proofs.well_formed.block_formed.Given as goal

@@ -1,5 +1,4 @@
 -- `zeros` meets its contract.
-use Prim.Native.Nat.{◌-◌}
 use native.Mathlib.Omega.{arith}
 use borrow.Author.Rules.{rules}
 use Rattle.lists.proofs.Decides.{yes_to, by}

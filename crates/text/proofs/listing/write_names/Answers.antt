@@ -1,6 +1,5 @@
 -- `write_names` meets its contract.
 use borrow.Author.Rules.{rules}
-use Prim.Native.Nat.{◌-◌}
 use Rattle.rules.specs.Text.{spaced}
 use Rattle.text.proofs.WritingLaws.{wrote_none, wrote_length}
 use Rattle.text.proofs.SpacedLaws.{wrote_name_more, wrote_pieces}

@@ -1,7 +1,6 @@
 -- `write_bytes` meets its contract.
 use borrow.Author.Rules.{rules}
 use native.Mathlib.Omega.{arith}
-use Prim.Native.Nat.{◌-◌}
 use Rattle.text.proofs.WritingLaws.{wrote_none, wrote_byte_more, wrote_all, wrote_length}
 use Rattle.text.proofs.writing.write_bytes.Goals as goal
 

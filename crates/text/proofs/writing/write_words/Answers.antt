@@ -2,7 +2,6 @@
 use Rattle.text.proofs.WritingLaws.{wrote_none, wrote_length}
 use Rattle.text.proofs.SpacedLaws.{wrote_word_more, wrote_pieces}
 use borrow.Author.Rules.{rules}
-use Prim.Native.Nat.{◌-◌}
 use Rattle.rules.specs.Text.{spaced}
 use Rattle.text.proofs.writing.write_words.Goals as goal
 
