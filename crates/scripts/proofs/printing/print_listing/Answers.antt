@@ -1,5 +1,4 @@
 -- A listing that is printed ends within the output that holds it.
-use Rattle.std.proofs.Common.{rules}
 use Rattle.scripts.proofs.Ends.{listing_ends}
 use Rattle.scripts.proofs.printing.print_listing.Goals as goal
 
