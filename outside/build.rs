@@ -1,4 +1,4 @@
-//! Links the proved library that `rt staticlib bench` wrote.
+//! Links the proved library that `tools/library` wrote.
 fn main() {
     if std::env::var_os("CARGO_FEATURE_LINKED").is_some() {
         let here = std::env::var("CARGO_MANIFEST_DIR").expect("cargo gives the folder");

@@ -8,7 +8,7 @@ use Rattle.rules.specs.Answers.{done, no_process, finished, waiting, stuck, wron
 use Rattle.store.specs.Loading.{Outcome}
 use Rattle.calls.specs.Calls.{outcome}
 use Rattle.calls.specs.Numbers.{number_of, value_of, Performs, TextCall, Lists}
-use Rattle.calls.specs.Promises.{OneAnswer, AnswersDetermined}
+use Rattle.calls.specs.Promises.{AnswersDetermined}
 use Rattle.calls.specs.declared.answers.Answer.{Answer}
 use Rattle.calls.specs.declared.answers.Answer.TheVariants.{Done, NoProcess, Finished, Waiting, Stuck, WrongCommand, PlaceTaken, TooLarge, HistoryFull, NoMessage, NothingToUndo, Held, NoCheckpoint, NotAState, NoRoom, BadLine}
 use Rattle.calls.proofs.Determined.{request_determined, line_determined, listing_determined}

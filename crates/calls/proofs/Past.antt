@@ -14,7 +14,7 @@ use Rattle.term.specs.Module.{check_module}
 use Rattle.rules.specs.Answers.{done}
 use Rattle.rules.specs.State.{Sizes, State}
 use Rattle.rules.specs.Sound.{Sound}
-use Rattle.rules.specs.Load.{good_sizes, loaded, Load, refused, loads, load}
+use Rattle.rules.specs.Load.{good_sizes, loaded, refused, loads, load}
 use Rattle.rules.specs.Line.{Request}
 use Rattle.rules.specs.Replies.{perform}
 use Rattle.store.specs.Layout.{needed, image}

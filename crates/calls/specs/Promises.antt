@@ -1,5 +1,5 @@
 -- What follows from the contracts of the calls, and nothing else. Each statement is shown by its name in proofs/.
-use Rattle.std.specs.Prelude.{ℕ, ◌≡◌, ◌≢◌, true, List, [], ◌∷◌, ◌++◌, length}
+use Rattle.std.specs.Prelude.{ℕ, ◌≡◌, ◌≢◌, true, List, [], ◌++◌, length}
 use Rattle.rules.specs.Answers.{done, held, not_a_state}
 use Rattle.rules.specs.State.{Sizes, State}
 use Rattle.rules.specs.Load.{loaded}

@@ -6,7 +6,7 @@ use native.Mathlib.Decide.{ℕ_discrete, dec_lt}
 use native.Mathlib.Omega.{arith}
 use lib.ListN.{length, get_or, set, length-set, length-replicate, get_or-replicate, get_or-eq_default}
 use lib.Seq.{get_or-set_same, get_or-set_other}
-use Rattle.cuts.specs.Bounds.{line_count, most_links}
+use Rattle.cuts.specs.Bounds.{most_links}
 use Rattle.cuts.specs.declared.link.Link.{Link}
 use Rattle.cuts.specs.Links.{from_line, from_index, on_line, on_index, IsLink, Room}
 use Rattle.cuts.specs.Chains.{slot_count, slot_of, index_room, no_chains, Chained, here, there, Indexed, Waiting}

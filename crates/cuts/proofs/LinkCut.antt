@@ -1,7 +1,6 @@
 -- The cut by links: each lowering takes only what depends on the event, and where no link is torn the cut is the event's.
 use Prim.Native.Nat.{ℕ, zero, suc, ◌≤◌, ◌<◌}
 use mathlib.Core.Path.{◌≡◌, refl, sym, subst}
-use mathlib.Core.Bool.{true}
 use mathlib.Core.Option.{some}
 use mathlib.Core.List.{List}
 use native.Mathlib.Decide.{dec_lt}
@@ -9,7 +8,7 @@ use native.Mathlib.Omega.{arith}
 use lib.ListN.{length}
 use Rattle.rules.specs.State.{Message, taking, as_rec, as_spawn, Entry, State}
 use Rattle.rules.specs.Sound.{Sound}
-use Rattle.rules.specs.Depends.{Series, entries_of, deliveries_to, level, happened}
+use Rattle.rules.specs.Depends.{Series, entries_of, deliveries_to, level}
 use Rattle.rules.specs.Standing.{Stands, seen}
 use Rattle.rules.specs.Rollback.{Cut, cut_to}
 use Rattle.demands.proofs.CutNumbers.{Good}

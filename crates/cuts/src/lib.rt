@@ -1,5 +1,6 @@
 // Cuts on numbers alone: which events go with one that goes, and whether accepted undos take them off.
 #![tactic(auto)]
+
 pub mod bounds;
 pub mod chains;
 pub mod cut;

@@ -6,7 +6,7 @@ use mathlib.Core.Option.{some}
 use mathlib.Core.List.{List, [], ◌∷◌, ◌++◌}
 use native.Mathlib.Omega.{arith}
 use lib.ListN.{length, length-append, length-drop}
-use Rattle.lists.proofs.Tests.{true_not_false, some_injective}
+use Rattle.lists.proofs.Tests.{some_injective}
 use Rattle.rules.specs.State.{Message, Letter, letter, taking, Kind, seq, send, rec, spawn, self, check, as_send, as_rec, as_spawn, Entry, State, history_at}
 use Rattle.rules.specs.Flight.{sends, taken}
 use Rattle.rules.specs.Sound.{SpawnedBy, SentTo, Sound}

@@ -17,7 +17,6 @@ use Rattle.reading.specs.Reads.{Holds, OfState, IsPlace, IsEntry}
 use Rattle.reading.proofs.Slotted.{entry_place}
 use Rattle.cuts.specs.Bounds.{most_places, most_entries, line_count, links_each, most_links, most_come}
 use Rattle.links.specs.declared.collecting.Sort.{Sort}
-use Rattle.links.specs.declared.collecting.Sort.TheVariants as Sort
 use Rattle.cuts.specs.Links.{line_number, cut_in, sum_of, Levels, Ties, of_rec, of_since, of_send, of_child, of_mail, Aims, of_aim, Links}
 use Rattle.links.specs.Listed.{ComeCount, TiesAt, rec_at, since_at, send_at, child_at, mail_at, AimsAt, aim_at, OfSort, AtPlace, BelowPlace, AtAll, Adds}
 use Rattle.links.proofs.LinkAdds.{lists_kept, lists_as, adds_most}

@@ -11,9 +11,7 @@ use Rattle.reading.specs.Reads.{OfState, OfEntry}
 use Rattle.reading.specs.declared.found.Found.{Found}
 use Rattle.reading.specs.declared.found.Found.TheVariants.{Nowhere, At}
 use Rattle.links.specs.declared.aims.Born.{Born}
-use Rattle.links.specs.declared.aims.Born.TheVariants as Born
 use Rattle.links.specs.declared.collecting.Sort.{Sort}
-use Rattle.links.specs.declared.collecting.Sort.TheVariants as Sort
 use Rattle.cuts.specs.Bounds.{link_size, most_come}
 use Rattle.cuts.specs.Links.{LinkAt, Says}
 

@@ -1,5 +1,6 @@
 // What stands in a store that is the image of a sound state.
 #![tactic(auto)]
+
 pub mod entries;
 pub mod found;
 pub mod mail;

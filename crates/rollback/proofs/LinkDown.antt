@@ -14,7 +14,7 @@ use Rattle.rules.specs.Answers.{held}
 use Rattle.rules.specs.State.{Message, Process, State}
 use Rattle.rules.specs.Flight.{left}
 use Rattle.rules.specs.Sound.{Sound}
-use Rattle.rules.specs.Commands.{back, undeliver, undelivers, post, accept, need, at_process, undelivering, after_plan, apply, run, run_state}
+use Rattle.rules.specs.Commands.{undeliver, undelivers, post, accept, need, at_process, undelivering, after_plan, apply, run, run_state}
 use Rattle.rules.specs.Depends.{Series, entries_of, deliveries_to, level, happened, event}
 use Rattle.rules.specs.Rollback.{cut_to, cut_before, undo_of, RolledBack, rolled, undo_to, rolled_state}
 use Rattle.demands.proofs.Event.{line?, Down}

@@ -1,4 +1,5 @@
 // Rollback: an event is undone with all that depend on it, or nothing is.
 #![tactic(auto)]
+
 pub mod down;
 pub mod rollback;

@@ -26,7 +26,7 @@ use Rattle.store.proofs.Restoring.{read_send, read_sends}
 use Rattle.store.proofs.Histories.{sends_few, sent_below}
 use Rattle.store.proofs.SoundSlots.{taken_name, taken_if, taken_names, sent_by, SaidTo}
 use Rattle.store.proofs.SoundSlots
-use Rattle.slots.specs.SoundTests.{kind_word, number_word, names_in, run_all}
+use Rattle.slots.specs.SoundTests.{kind_word, number_word, run_all}
 use Rattle.soundness.specs.MessageTests.{arrive_from}
 use Rattle.slots.proofs.Marks.{Marked, marked, marks}
 use Rattle.slots.proofs.Occurring.{occurs_so, all_occurring, occurs_reverse}

@@ -1,5 +1,5 @@
 -- What the tests of messages that came and of flows answer, said of the words of slots.
-use Rattle.std.specs.Prelude.{ℕ, suc, ◌+◌, ◌*◌, ◌<◌, ◌/◌, ◌%◌, ◌≡◌, Bool, true, false, cond, ◌&&◌, List, [], ◌∷◌, ◌++◌, eqb, ltb, take, drop, get_or, set}
+use Rattle.std.specs.Prelude.{ℕ, ◌+◌, ◌*◌, ◌<◌, ◌/◌, ◌%◌, ◌≡◌, Bool, cond, ◌&&◌, List, [], ◌∷◌, eqb, ltb, drop, get_or, set}
 use Rattle.std.proofs.Math.Option.{Option, none, some}
 use Rattle.lists.specs.Lists.{All, chop}
 use Rattle.prefixes.specs.Prefixes.{left_begins}

@@ -1,5 +1,4 @@
 -- `cuts::cut::above` meets its contract.
-use Prim.Native.Nat.{◌-◌}
 use native.Mathlib.Omega.{arith}
 use Rattle.cuts.proofs.LinkTests.{above_here, above_on, above_nowhere}
 use Rattle.cuts.proofs.cut.above.Goals as goal

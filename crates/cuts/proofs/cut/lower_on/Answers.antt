@@ -1,5 +1,5 @@
 -- `cuts::cut::lower_on` meets its contract.
-use Prim.Native.Nat.{◌+◌, ◌-◌}
+use Prim.Native.Nat.{◌+◌}
 use native.Mathlib.Omega.{arith}
 use Rattle.cuts.specs.Chains.{slot_count}
 use Rattle.cuts.proofs.LowerLaws.{on_start, on_next, on_done}

@@ -1,5 +1,5 @@
 -- `cuts::search::blocked` meets its contract.
-use Prim.Native.Nat.{◌+◌, ◌-◌}
+use Prim.Native.Nat.{◌+◌}
 use native.Mathlib.Omega.{arith}
 use Rattle.cuts.specs.Chains.{slot_count}
 use Rattle.cuts.proofs.LinkTests.{ahead_start, ahead_on, blocked_here, blocked_nowhere}

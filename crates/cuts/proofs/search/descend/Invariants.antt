@@ -1,5 +1,5 @@
 -- `cuts::search::descend` meets its contract.
-use Prim.Native.Nat.{◌+◌, ◌-◌}
+use Prim.Native.Nat.{◌+◌}
 use mathlib.Core.Path.{◌≡◌}
 use lib.ListN.{length}
 use Rattle.cuts.specs.Bounds.{line_count}

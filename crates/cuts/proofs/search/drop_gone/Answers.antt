@@ -1,5 +1,4 @@
 -- `cuts::search::drop_gone` meets its contract.
-use Prim.Native.Nat.{◌-◌}
 use native.Mathlib.Omega.{arith}
 use Rattle.lists.proofs.Decides.{refuted}
 use Rattle.cuts.proofs.ChainLaws.{drop_on, drop_less}

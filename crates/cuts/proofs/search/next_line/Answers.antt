@@ -1,5 +1,4 @@
 -- `cuts::search::next_line` meets its contract.
-use Prim.Native.Nat.{◌-◌}
 use native.Mathlib.Omega.{arith}
 use borrow.Author.Rules.{rules}
 use Rattle.cuts.specs.Going.{Free}

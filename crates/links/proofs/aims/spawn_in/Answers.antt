@@ -1,6 +1,5 @@
 -- `links::aims::spawn_in` meets its contract.
 use Rattle.reading.proofs.MailReads.{end_entry}
-use Prim.Native.Nat.{◌-◌}
 use native.Mathlib.Omega.{arith}
 use Rattle.links.proofs.SpawnReads.{unspawned_start, spawn_here, unspawned_on, unspawned_all}
 use Rattle.links.proofs.aims.spawn_in.Goals as goal

@@ -4,7 +4,6 @@ use mathlib.Core.Path.{subst}
 use Rattle.links.specs.Listed.{SpawnIn}
 use Rattle.reading.specs.declared.found.Found.{Found}
 use Rattle.reading.specs.Reads.{OfState}
-use Prim.Native.Nat.{◌-◌}
 use native.Mathlib.Omega.{arith}
 use Rattle.links.proofs.SpawnReads.{unborn_root, unborn_start, born_here, unborn_on, unborn_all}
 use Rattle.links.proofs.aims.spawn_of.Goals as goal

@@ -3,7 +3,7 @@ use Rattle.reading.proofs.MailReads.{end_entry}
 use mathlib.Core.Path.{subst, ◌≡◌}
 use Rattle.reading.specs.declared.found.Found.TheVariants.{At}
 use Rattle.links.specs.Listed.{PlaceFrom}
-use Prim.Native.Nat.{◌-◌, ◌<◌}
+use Prim.Native.Nat.{◌<◌}
 use native.Mathlib.Omega.{arith}
 use lib.ListN.{length}
 use Rattle.links.proofs.ArrivalReads.{LeftIs, Unshown, left_start, unshown_start, left_more, unshown_more, shown_here, queued_here, queued_nowhere}

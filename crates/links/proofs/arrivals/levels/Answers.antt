@@ -1,6 +1,6 @@
 -- `links::arrivals::levels` meets its contract.
 use Rattle.reading.proofs.FlightReads.{end_place}
-use Prim.Native.Nat.{◌+◌, ◌-◌}
+use Prim.Native.Nat.{◌+◌}
 use mathlib.Core.Path.{sym, subst₂}
 use lib.ListN.{set}
 use native.Mathlib.Omega.{arith}

@@ -1,5 +1,4 @@
 -- `links::arrivals::place_from` meets its contract.
-use Prim.Native.Nat.{◌-◌}
 use native.Mathlib.Omega.{arith}
 use Rattle.links.proofs.ArrivalReads.{place_here, place_on, place_nowhere}
 use Rattle.links.proofs.arrivals.place_from.Goals as goal

@@ -1,5 +1,5 @@
 -- `links::arrivals::recs_before` meets its contract.
-use Prim.Native.Nat.{◌-◌, ◌≤◌}
+use Prim.Native.Nat.{◌≤◌}
 use native.Mathlib.Omega.{arith}
 use Rattle.links.proofs.ArrivalReads.{recs_start, recs_more, recs_low, recs_done}
 use Rattle.reading.proofs.MailReads.{index_entry, index_low}

@@ -1,5 +1,4 @@
 -- `links::collecting::collect` meets its contract.
-use Prim.Native.Nat.{◌-◌}
 use native.Mathlib.Omega.{arith}
 use Rattle.reading.proofs.FlightReads.{end_place}
 use Rattle.links.proofs.LinkAdds.{adds_most, place_none, place_more}

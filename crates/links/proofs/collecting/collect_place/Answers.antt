@@ -1,5 +1,4 @@
 -- `links::collecting::collect_place` meets its contract.
-use Prim.Native.Nat.{◌-◌}
 use native.Mathlib.Omega.{arith}
 use Rattle.reading.proofs.MailReads.{end_entry}
 use Rattle.links.proofs.LinkAdds.{below_none, below_more, below_all, adds_most}

@@ -1,6 +1,5 @@
 -- `among` meets its contract.
 use mathlib.Core.Path.{refl}
-use Prim.Native.Nat.{◌-◌}
 use borrow.Author.Rules.{rules}
 use native.Mathlib.Omega.{arith}
 use Rattle.reading.proofs.MailReads.{among_here, among_next, among_none}

@@ -1,6 +1,4 @@
 -- `awaited` meets its contract.
-use mathlib.Core.Bool.{false}
-use Prim.Native.Nat.{◌-◌}
 use borrow.Author.Rules.{rules}
 use native.Mathlib.Omega.{arith}
 use Rattle.reading.proofs.FlightReads.{end_place, calm_start, calm_more, awaited_here, awaited_none}

@@ -1,5 +1,4 @@
 -- `awaited_from` meets its contract.
-use Prim.Native.Nat.{◌-◌}
 use borrow.Author.Rules.{rules}
 use native.Mathlib.Omega.{arith}
 use Rattle.reading.proofs.FlightReads.{quiet_start, name_start, quiet_more, flies_found, name_more, name_low, quiet_all}

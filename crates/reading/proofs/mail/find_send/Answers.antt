@@ -1,5 +1,4 @@
 -- `find_send` meets its contract.
-use Prim.Native.Nat.{◌-◌}
 use borrow.Author.Rules.{rules}
 use native.Mathlib.Omega.{arith}
 use Rattle.reading.proofs.MailReads.{end_entry, left_start, left_more, found_here, found_none}

@@ -1,6 +1,4 @@
 -- `received` meets its contract.
-use mathlib.Core.Bool.{false}
-use Prim.Native.Nat.{◌-◌}
 use borrow.Author.Rules.{rules}
 use native.Mathlib.Omega.{arith}
 use Rattle.reading.proofs.MailReads.{end_entry, received_start, received_here, received_next, received_none}

@@ -1,6 +1,6 @@
 -- `sends_before` meets its contract.
 use Rattle.reading.specs.Reads.{OfState, IsEntry}
-use Prim.Native.Nat.{◌≤◌, ◌-◌}
+use Prim.Native.Nat.{◌≤◌}
 use native.Mathlib.Omega.{arith}
 use Rattle.reading.proofs.MailReads.{index_entry, index_low, here_low, counted, count_start, count_done}
 use Rattle.reading.proofs.mail.sends_before.Goals as goal

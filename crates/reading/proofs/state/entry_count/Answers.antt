@@ -1,7 +1,6 @@
 -- `entry_count` meets its contract.
 use borrow.Author.Rules.{rules}
 use Rattle.reading.proofs.StateReads.{head_of, count_none, count_free, count_more, count_full, count_index}
-use Prim.Native.Nat.{◌-◌}
 use native.Mathlib.Omega.{arith}
 use Rattle.reading.proofs.state.entry_count.Goals as goal
 

@@ -1,5 +1,4 @@
 -- `rollback::down::undo_down` meets its contract.
-use Prim.Native.Nat.{◌-◌}
 use mathlib.Core.Path.{◌≡◌}
 use lib.ListN.{length}
 use Rattle.cuts.specs.Bounds.{line_count}

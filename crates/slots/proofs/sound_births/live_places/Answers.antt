@@ -1,7 +1,6 @@
 -- `live_places` meets its contract.
 use Prim.Native.Nat.{◌≤◌}
 use mathlib.Core.Path.{refl, ◌∙◌}
-use mathlib.Core.Bool.{false}
 use native.Mathlib.Omega.{arith}
 use lib.ListN.{length, length-set}
 use Rattle.slots.proofs.SoundTestWalk.{first_in, behind_short, others_lent}

@@ -1,7 +1,6 @@
 -- `arrive_all` meets its contract.
 use mathlib.Core.Bool.{not}
 use mathlib.Core.Path.{ap}
-use Prim.Native.Nat.{◌-◌}
 use mathlib.Core.Path.{refl}
 use native.Mathlib.Omega.{arith}
 use borrow.Author.Rules.{rules}
