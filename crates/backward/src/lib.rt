@@ -1,4 +1,5 @@
 // Undoing: back and undeliver on a store.
 #![tactic(auto)]
+
 pub mod backward;
 pub mod held;

@@ -13,7 +13,6 @@ use Rattle.rules.specs.Flight.{sent, has_come, flies}
 use Rattle.rules.specs.Sound.{SentTo}
 use Rattle.rules.specs.Commands.{deliver, delivers, post, Plan, refuse, accept, need, set_queue, apply, delivering, run, after_plan, run_state}
 use Rattle.rules.specs.Replies.{perform}
-use Rattle.rules.specs.Rules.{message}
 use Rattle.demands.proofs.Frame.{no_process_lem}
 use Rattle.demands.proofs.Consequences.{consequences}
 use Rattle.store.specs.Image.{IsImage}

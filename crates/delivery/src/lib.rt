@@ -1,3 +1,4 @@
 // Deliver on a store.
 #![tactic(auto)]
+
 pub mod delivery;

@@ -1,3 +1,4 @@
 // Step and spawn on a store.
 #![tactic(auto)]
+
 pub mod commands;

@@ -1,5 +1,6 @@
 // The listing of the state that a store holds.
 #![tactic(auto)]
+
 pub mod flying;
 pub mod listing;
 pub mod processes;

@@ -4,15 +4,12 @@ use mathlib.Core.Path.{◌≡◌, refl, sym, ◌∙◌, ap, subst}
 use mathlib.Core.Logic.{inl, inr}
 use mathlib.Core.Bool.{Bool, true, false}
 use mathlib.Core.Option.{some}
-use mathlib.Core.List.{List, [], ◌∷◌, ◌++◌}
+use mathlib.Core.List.{List, ◌++◌}
 use native.Mathlib.Omega.{arith}
 use lib.Dec.{leb, ltb}
 use lib.ListN.{length, take, length-take}
 use lib.Seq.{sets-eq, length-sets, length-take-le, take-append_seam}
 use Rattle.lists.proofs.Tests.{leb-true, leb_of, ltb-true, true_or_false, cond_true, cond_false}
-use types.Run.{OneOf, miss}
-use denote.Enum.Declared.{tag_of}
-use Rattle.step.specs.contracts.step.Next.{the_type}
 use Rattle.step.specs.Steps.{fitted_of, WroteNext}
 use Rattle.step.specs.declared.step.Next.{Next}
 use Rattle.step.specs.declared.step.Next.TheVariants.{Nothing, TooLarge, Row}

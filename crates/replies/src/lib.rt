@@ -1,3 +1,4 @@
 // What is printed for a command line.
 #![tactic(auto)]
+
 pub mod replies;

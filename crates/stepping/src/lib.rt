@@ -1,3 +1,4 @@
 // What a process that lives does by step or spawn.
 #![tactic(auto)]
+
 pub mod stepping;

@@ -1,7 +1,6 @@
 -- `write_sender` meets its contract.
 use borrow.Author.Rules.{rules}
 use mathlib.Core.Path.{refl}
-use Prim.Native.Nat.{◌-◌}
 use native.Mathlib.Omega.{arith}
 use Rattle.listing.proofs.FlightLaws.{whole_fits, names_none, names_more, names_all}
 use Rattle.listing.proofs.flying.write_sender.Goals as goal

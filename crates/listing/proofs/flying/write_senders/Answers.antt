@@ -1,7 +1,6 @@
 -- `write_senders` meets its contract.
 use borrow.Author.Rules.{rules}
 use mathlib.Core.Path.{refl}
-use Prim.Native.Nat.{◌-◌}
 use native.Mathlib.Omega.{arith}
 use Rattle.reading.proofs.FlightReads.{end_place}
 use Rattle.listing.proofs.FlightLaws.{senders_none, senders_more, senders_all}

@@ -1,6 +1,5 @@
 -- `write_places` meets its contract.
 use borrow.Author.Rules.{rules}
-use Prim.Native.Nat.{◌-◌}
 use native.Mathlib.Omega.{arith}
 use Rattle.reading.proofs.FlightReads.{end_place}
 use Rattle.listing.proofs.ProcessLaws.{places_none, places_more, places_all}
