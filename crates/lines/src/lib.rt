@@ -1,4 +1,5 @@
 // Command lines, and the program's input.
 #![tactic(auto)]
+
 pub mod input;
 pub mod lines;

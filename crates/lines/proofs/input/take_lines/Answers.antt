@@ -1,6 +1,5 @@
 -- `take_lines` meets its contract.
 use borrow.Author.Rules.{rules}
-use Prim.Native.Nat.{◌-◌}
 use Rattle.lines.proofs.GatherLaws.{took_none, took_more, took_all}
 use Rattle.lines.proofs.input.take_lines.Goals as goal
 
