@@ -29,13 +29,7 @@ fn pack(a: Answer) -> u64
 }
 
 // Loads a module into a store. Number 0; 2; or 1 with the position of the bad word. A refused load leaves the store as it was.
-pub fn bench_load(
-    module: &[u32],
-    places: u32,
-    entries: u32,
-    words: u32,
-    store: &mut [u32],
-) -> u64
+pub fn bench_load(module: &[u32], places: u32, entries: u32, words: u32, store: &mut [u32]) -> u64
     ensures { LoadCall «module».now (sizes_of places entries words) store.old (returned result store.new) }
 {
     let loaded = load(module, places, entries, words, store);

@@ -1,3 +1,4 @@
-// The calls for programs in other languages.
+// The calls on plain numbers and slices.
 #![tactic(auto)]
+
 pub mod exports;
