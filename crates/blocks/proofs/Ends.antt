@@ -1,9 +1,9 @@
--- What is said for a block ends within its output, and what is kept of a line within the line.
+-- What is said for a block ends within its output, what is kept of a line within the line, and so the block is taken as its contract says.
 use Prim.Native.Nat.{ℕ, ◌*◌, ◌≤◌}
-use mathlib.Core.Path.{◌≡◌}
+use mathlib.Core.Path.{◌≡◌, refl, subst}
 use mathlib.Core.List.{List}
 use native.Mathlib.Omega.{arith}
-use lib.ListN.{length}
+use lib.ListN.{length, take}
 use Rattle.text.proofs.WritingLaws.{wrote_length}
 use Rattle.replies.specs.Replied.{reply_room}
 use Rattle.lines.specs.Input.{Hears}
@@ -11,6 +11,7 @@ use Rattle.lines.specs.declared.input.Block.{Block}
 use Rattle.lines.specs.declared.input.Block.TheVariants.{Taken}
 use Rattle.replies.proofs.ReplyRoom.{text_taken}
 use Rattle.lines.proofs.GatherLaws.{gather_within, hears_taken}
+use Rattle.blocks.specs.Left.{TakesBlock}
 
 -- a block that is taken: what is said for it ends within an output that has room, and what is kept of a line within the line
 module _ {entry line input old exit after new : List ℕ} {count kept end : ℕ} {r : Block} (hears : Hears entry line count input old exit after new r) (taken : r ≡ Taken kept end) where
@@ -29,3 +30,6 @@ module _ {entry line input old exit after new : List ℕ} {count kept end : ℕ}
       let w = (gather_within input line count has.1).within in
       let k = t.count_is in
       omega arith
+
+  pub block_takes : reply_room * length input ≤ length old → TakesBlock entry line count input exit after kept (take end new)
+  block_takes room = record { old = old; room = room; new = new; end = end; hears = subst (Hears entry line count input old exit after new) taken hears; said_is = refl }

@@ -1,2 +1,3 @@
--- Ends of outputs and of lines.
+-- Ends of outputs and of lines, and what a script's bytes make of a line.
 pub mod Ends
+pub mod Gathering

@@ -1,2 +1,3 @@
--- How much is read at once.
+-- How much is read at once, and what it leaves.
+pub mod Left
 pub mod Rooms

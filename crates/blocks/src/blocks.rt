@@ -1,5 +1,7 @@
 // A block of the input, line by line: the commands of the program bench, or a script.
-ghost use Rattle.std.specs.Prelude.{◌≤◌, length, IfOk};
+ghost use Rattle.std.specs.Prelude.{◌≡◌, ◌≤◌, ℕ, List, [], ◌∷◌, length, IfOk, OnErr, IsTrue, IsFalse};
+ghost use Rattle.std.specs.Io.KnownBytes.{Appends};
+ghost use Rattle.blocks.specs.Left.{TakesBlock, RefusesBlock, Gathers, StopsAtLine};
 ghost use Rattle.blocks.specs.Rooms.{block_room};
 
 use console::printing::print;
@@ -31,7 +33,13 @@ pub fn answer_block<W: Write>(
     block: &[u8],
 ) -> Result<Turn>
     requires { length block.now ≤ block_room }
-    ensures { IfOk result (λ turn. turn.count ≤ length line.old) }
+    ensures ok { IfOk result (λ turn. turn.count ≤ length line.old) }
+    ensures ok_taken { IfOk result (λ turn. IsTrue turn.more → ((said : List ℕ)
+        × TakesBlock store.old line.old count block.now store.new line.new turn.count said
+        × Appends (W.contents to.old) (W.contents to.new) said)) }
+    ensures ok_refused { IfOk result (λ turn. IsFalse turn.more → RefusesBlock store.old line.old count store.new line.new) }
+    ensures err { OnErr result ((kept : ℕ) × (said : List ℕ)
+        × TakesBlock store.old line.old count block.now store.new line.new kept said) }
 {
     let mut out = [0u8; SAID];
     let taken = take_block(store, line, count, block, &mut out);
@@ -57,7 +65,11 @@ fn take_byte<W: Write>(
     b: u8,
 ) -> Result<usize>
     requires { count ≤ length line.old }
-    ensures { IfOk result (λ n. n ≤ length line.old) }
+    ensures ok { IfOk result (λ n. n ≤ length line.old) }
+    ensures ok_gathers { IfOk result (λ n. Gathers line.old count (b ∷ []) line.new n) }
+    ensures err_feed { OnErr result (b ≡ LINE_FEED) }
+    ensures err_line { OnErr result (line.new ≡ line.old) }
+    ensures err_store { OnErr result (length store.new ≡ length store.old) }
 {
     if b == LINE_FEED {
         perform(to, store, &line[..count])?;
@@ -75,7 +87,10 @@ pub fn perform_block<W: Write>(
     block: &[u8],
 ) -> Result<usize>
     requires { count ≤ length line.old }
-    ensures { IfOk result (λ n. n ≤ length line.old) }
+    ensures ok { IfOk result (λ n. n ≤ length line.old) }
+    ensures ok_gathers { IfOk result (λ n. Gathers line.old count block.now line.new n) }
+    ensures err_line { OnErr result (StopsAtLine line.old count block.now line.new) }
+    ensures err_store { OnErr result (length store.new ≡ length store.old) }
 {
     let mut n = count;
     let mut i = 0;

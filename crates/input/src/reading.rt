@@ -1,5 +1,6 @@
 // Standard input, read to its end.
-ghost use Rattle.std.specs.Prelude.{◌≤◌, length, IfOk};
+ghost use Rattle.std.specs.Prelude.{◌≡◌, ◌≤◌, ℕ, List, length, IfOk, OnErr};
+ghost use Rattle.blocks.specs.Left.{TakesBlock, StopsAtLine};
 ghost use Rattle.blocks.specs.Rooms.{block_room};
 
 use blocks::blocks::{BLOCK_ROOM, Turn, answer_block, perform_block};
@@ -24,7 +25,12 @@ fn hear<W: Write>(
 ) -> Result<Turn>
     requires count_in_bounds { count ≤ length line.old }
     requires block_len_bound { length block.now ≤ block_room }
-    ensures { IfOk result (λ turn. turn.count ≤ length line.old) }
+    ensures ok { IfOk result (λ turn. turn.count ≤ length line.old) }
+    ensures err_commands { OnErr result (lines ≡ Lines.Commands → ((kept : ℕ) × (said : List ℕ)
+        × TakesBlock store.old line.old count block.now store.new line.new kept said)) }
+    ensures err_script { OnErr result (lines ≡ Lines.Script → StopsAtLine line.old count block.now line.new) }
+    ensures err_line { OnErr result (length line.new ≡ length line.old) }
+    ensures err_store { OnErr result (length store.new ≡ length store.old) }
 {
     match lines {
         Lines::Commands => answer_block(to, store, line, count, block),
@@ -45,7 +51,9 @@ fn read_some<R: Read, W: Write>(
     count: usize,
 ) -> Result<Turn>
     requires { count ≤ length line.old }
-    ensures { IfOk result (λ turn. turn.count ≤ length line.old) }
+    ensures ok { IfOk result (λ turn. turn.count ≤ length line.old) }
+    ensures err_line { OnErr result (length line.new ≡ length line.old) }
+    ensures err_store { OnErr result (length store.new ≡ length store.old) }
 {
     let mut block = [0u8; BLOCK_ROOM];
     match from.read(&mut block) {
@@ -71,7 +79,9 @@ pub fn read_all<R: Read, W: Write>(
     store: &mut [u32],
     line: &mut [u8],
 ) -> Result<usize>
-    ensures { IfOk result (λ count. count ≤ length line.old) }
+    ensures ok { IfOk result (λ count. count ≤ length line.old) }
+    ensures err_line { OnErr result (length line.new ≡ length line.old) }
+    ensures err_store { OnErr result (length store.new ≡ length store.old) }
 {
     let mut turn = Turn {
         count: 0,
