@@ -2,7 +2,7 @@
 // caused it; and a corpus of random modules and commands, against what a model of the specification prints.
 #![tactic(auto)]
 
-use input::reading::{Lines, read_all};
+use input::stream::{Lines, read_all};
 use scripts::script::LONGEST_LINE;
 use std::io::{Result, writer};
 

@@ -2,7 +2,7 @@
 #![tactic(auto)]
 
 use blocks::blocks::answer_last;
-use input::reading::{Lines, read_all};
+use input::stream::{Lines, read_all};
 use lines::input::LONGEST_GOOD;
 use scripts::printing::list;
 use std::io::{Result, writer};

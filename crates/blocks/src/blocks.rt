@@ -17,7 +17,7 @@ pub const BLOCK_ROOM: usize = 4096;
 const SAID: usize = REPLY_ROOM * BLOCK_ROOM;
 
 // What has been read of a line, and whether there may be more input.
-#[derive(Drop)]
+#[derive(Clone, Copy)]
 pub struct Turn {
     pub count: usize,
     pub more: bool,

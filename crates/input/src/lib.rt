@@ -1,4 +1,4 @@
 // Standard input, taken line by line.
 #![tactic(auto)]
 
-pub mod reading;
+pub mod stream;
