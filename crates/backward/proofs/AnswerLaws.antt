@@ -1,13 +1,14 @@
 -- How back and undeliver answer, by what the code knows at each of its returns.
 use Prim.Native.Nat.{ℕ, ◌-◌, ◌<◌, ◌≤◌}
 use mathlib.Core.Path.{◌≡◌, refl, sym, ◌∙◌, ap}
-use mathlib.Core.Bool.{Bool, true, false, not}
+use mathlib.Core.Bool.{Bool, true, false}
 use mathlib.Core.Option.{Option, none, some}
 use mathlib.Core.List.{List, [], ◌∷◌, ◌++◌, map}
 use native.Mathlib.Omega.{arith}
 use lib.ListN.{length}
+use Rattle.std.specs.Prelude.{Ok, Err}
 use Rattle.lists.specs.Lists.{but_last}
-use Rattle.lists.proofs.Tests.{true_not_false, not_true, not_false, ltb_of}
+use Rattle.lists.proofs.Tests.{true_not_false, ltb_of}
 use Rattle.rules.specs.Answers.{done, held}
 use Rattle.rules.specs.State.{Message, Kind, seq, send, rec, spawn, self, check, Entry, Process, State, history_of, history_at, is_process, in_pool, same_queue}
 use Rattle.rules.specs.Flight.{sends, left, flies}
@@ -22,7 +23,7 @@ use Rattle.reading.specs.Reads.{Holds, OfState, IsPlace}
 use Rattle.writing.specs.Writes.{Leads, Undoes, Unposts, CanTake, CanUndo}
 use Rattle.calls.specs.Calls.{outcome}
 use Rattle.calls.specs.Numbers.{number_of, value_of}
-use Rattle.calls.specs.declared.answers.Answer.TheVariants.{Done, NoProcess, NothingToUndo, Held}
+use Rattle.calls.specs.declared.answers.Refusal.TheVariants.{NoProcess, NothingToUndo, Held}
 use Rattle.calls.proofs.Accepted.{accepted_stored}
 use Rattle.calls.specs.Answering.{Answers, Does}
 use Rattle.calls.proofs.Answering.{does_refused}
@@ -34,7 +35,7 @@ use Rattle.backward.proofs.HeldLaws.{run_back}
 
 -- ---- accepted
 
-acceptance : (c : Command) (l l' : List ℕ) → ((s : State) (rest : List ℕ) → Holds l s rest → (s' : State) × (run_state c s ≡ some s') × (l' ≡ image s' ++ rest)) → Does c l l' (Done 0)
+acceptance : (c : Command) (l l' : List ℕ) → ((s : State) (rest : List ℕ) → Holds l s rest → (s' : State) × (run_state c s ≡ some s') × (l' ≡ image s' ++ rest)) → Does c l l' (Ok 0)
 unfolding Answers number_of value_of
 acceptance c l l' accepts s rest h =
     let (s', e, words) = accepts s rest h in
@@ -43,18 +44,18 @@ acceptance c l l' accepts s rest h =
 -- ---- a place that is in the pool, or not
 
 module _ (l : List ℕ) (p : ℕ) (b : Bool) (read : OfState l (λ s. b ≡ in_pool s p)) where
-  pub back_no_process : not b ≡ true → Does (back p) l l NoProcess
+  pub back_no_process : b ≡ false → Does (back p) l l (Err NoProcess)
   unfolding OfState number_of value_of
-  back_no_process fails = does_refused (back p) l NoProcess refl (λ s rest h. refuses s h.sound.pool_ends (not_in_pool for_back (sym (read s rest h) ∙ not_true b fails)))
+  back_no_process fails = does_refused (back p) l (Err NoProcess) refl (λ s rest h. refuses s h.sound.pool_ends (not_in_pool for_back (sym (read s rest h) ∙ fails)))
 
-  pub undeliver_no_process : not b ≡ true → Does (undeliver p) l l NoProcess
+  pub undeliver_no_process : b ≡ false → Does (undeliver p) l l (Err NoProcess)
   unfolding OfState number_of value_of
-  undeliver_no_process fails = does_refused (undeliver p) l NoProcess refl (λ s rest h. refuses s h.sound.pool_ends (not_in_pool for_undeliver (sym (read s rest h) ∙ not_true b fails)))
+  undeliver_no_process fails = does_refused (undeliver p) l (Err NoProcess) refl (λ s rest h. refuses s h.sound.pool_ends (not_in_pool for_undeliver (sym (read s rest h) ∙ fails)))
 
-  module _ (yes' : not b ≡ false) where
+  module _ (live : b ≡ true) where
     lives : (s : State) (rest : List ℕ) → Holds l s rest → in_pool s p ≡ true
     unfolding OfState
-    lives s rest h = sym (read s rest h) ∙ not_false b yes'
+    lives s rest h = sym (read s rest h) ∙ live
 
     pub pool_place : OfState l (IsPlace p)
     unfolding OfState
@@ -71,9 +72,9 @@ module _ (l : List ℕ) (p : ℕ) (b : Bool) (read : OfState l (λ s. b ≡ in_p
           go none i live e = true_not_false live refl
           go (some a) i live e = (a.control, i ∙ (λ j. some (record { control = a.control; history = empty a.history e j })))
 
-      pub back_nothing : n ≡ 0 → Does (back p) l l NothingToUndo
+      pub back_nothing : n ≡ 0 → Does (back p) l l (Err NothingToUndo)
       unfolding number_of value_of
-      back_nothing none_made = does_refused (back p) l NothingToUndo refl (λ s rest h. refuses s h.sound.pool_ends (no_entry (no_entries s rest h none_made).1))
+      back_nothing none_made = does_refused (back p) l (Err NothingToUndo) refl (λ s rest h. refuses s h.sound.pool_ends (no_entry (no_entries s rest h none_made).1))
 
       module _ (some-made : ¬ (n ≡ 0)) where
         pub back_newest : OfState l (IsNewest p (n - 1))
@@ -97,13 +98,13 @@ module _ (l : List ℕ) (p : ℕ) (b : Bool) (read : OfState l (λ s. b ≡ in_p
               go self f = true_not_false refl f
               go (check number) f = true_not_false refl f
 
-          pub back_held : not r ≡ true → Does (back p) l l Held
+          pub back_held : r ≡ false → Does (back p) l l (Err Held)
           unfolding OfState number_of value_of
-          back_held fails = does_refused (back p) l Held refl (λ s rest h.
+          back_held fails = does_refused (back p) l (Err Held) refl (λ s rest h.
               let newest = back_newest s rest h in
               let (e, stands) = entry_exists (history_at s p) (n - 1) (omega (arith, newest)) in
               let ran = run_back s p (n - 1) e newest stands in
-              ran ∙ held_plan s e _ e.kind (ap is_accepted (sym ran) ∙ sym (tested s rest h) ∙ not_true r fails))
+              ran ∙ held_plan s e _ e.kind (ap is_accepted (sym ran) ∙ sym (tested s rest h) ∙ fails))
 
           can : (s : State) → is_accepted (run (back p) s) ≡ true → (s' : State) × (run_state (back p) s ≡ some s')
           unfolding run_state after_plan is_accepted
@@ -113,15 +114,15 @@ module _ (l : List ℕ) (p : ℕ) (b : Bool) (read : OfState l (λ s. b ≡ in_p
               go (refuse number) a = true_not_false a refl
               go (accept deed move) a = (apply move s, refl)
 
-          module _ (passes : not r ≡ false) where
+          module _ (passes : r ≡ true) where
             pub back_can : OfState l (CanUndo p)
             unfolding OfState
-            back_can s rest h = let (s', e) = can s (sym (tested s rest h) ∙ not_false r passes) in record { after = s'; accepted = e }
+            back_can s rest h = let (s', e) = can s (sym (tested s rest h) ∙ passes) in record { after = s'; accepted = e }
 
-            pub back_done : (l' : List ℕ) → Leads l l' (Undoes p) → Does (back p) l l' (Done 0)
+            pub back_done : (l' : List ℕ) → Leads l l' (Undoes p) → Does (back p) l l' (Ok 0)
             unfolding OfState Leads Undoes
             back_done l' leads = acceptance (back p) l l' (λ s rest h.
-                let (s', e) = can s (sym (tested s rest h) ∙ not_false r passes) in
+                let (s', e) = can s (sym (tested s rest h) ∙ passes) in
                 (s', e, leads s s' rest h e))
 
     -- ---- undeliver
@@ -131,15 +132,15 @@ module _ (l : List ℕ) (p : ℕ) (b : Bool) (read : OfState l (λ s. b ≡ in_p
       unfolding OfState
       long = queue_long l p names read-queue
 
-      pub undeliver_nothing : length names ≡ 0 → Does (undeliver p) l l NothingToUndo
+      pub undeliver_nothing : length names ≡ 0 → Does (undeliver p) l l (Err NothingToUndo)
       unfolding number_of value_of
-      undeliver_nothing none-queued = does_refused (undeliver p) l NothingToUndo refl (λ s rest h.
+      undeliver_nothing none-queued = does_refused (undeliver p) l (Err NothingToUndo) refl (λ s rest h.
           refuses s h.sound.pool_ends (no_message_queued (lives s rest h) (empty (s.queues p) (sym (long s rest h) ∙ none-queued))))
 
       module _ (some-queued : ¬ (length names ≡ 0)) (n : ℕ) (kept : OfState l (λ s. n ≡ length (left (history_at s p)))) where
-        pub undeliver_held : length names ≤ n → Does (undeliver p) l l Held
+        pub undeliver_held : length names ≤ n → Does (undeliver p) l l (Err Held)
         unfolding OfState number_of value_of
-        undeliver_held short = does_refused (undeliver p) l Held refl (λ s rest h.
+        undeliver_held short = does_refused (undeliver p) l (Err Held) refl (λ s rest h.
             refuses s h.sound.pool_ends (message_held (lives s rest h) (λ e. some-queued (long s rest h ∙ ap length e)) (omega (arith, short, long s rest h, kept s rest h))))
 
         module _ (longer : n < length names) where
@@ -157,6 +158,6 @@ module _ (l : List ℕ) (p : ℕ) (b : Bool) (read : OfState l (λ s. b ≡ in_p
               go (some a) live [] h = absurd (omega arith)
               go (some a) live (m ∷ q) h = ap (λ plan. after_plan plan s) (need_true held _ (ltb_of (length (left a.history)) (length (m ∷ q)) h))
 
-          pub undeliver_done : (l' : List ℕ) → Leads l l' (Unposts p) → Does (undeliver p) l l' (Done 0)
+          pub undeliver_done : (l' : List ℕ) → Leads l l' (Unposts p) → Does (undeliver p) l l' (Ok 0)
           unfolding Leads Unposts
           undeliver_done l' leads = acceptance (undeliver p) l l' (λ s rest h. (apply (post p (but_last (s.queues p))) s, ran s rest h, leads s _ rest h refl))

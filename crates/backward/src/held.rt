@@ -7,21 +7,19 @@ ghost use Rattle.store.specs.Image.{IsImage};
 ghost use Rattle.reading.specs.Reads.{OfState, IsPlace, Lives, IsSend, OfSend, oldest};
 ghost use Rattle.backward.specs.Undoing.{IsNewest, is_accepted};
 
+use kinds::Kind;
 use reading::entries::{kind, number, queue_before};
 use reading::mail::{awaited, has_come, sends_before, target};
 use reading::state::{entry_count, queue};
 use rows::words::NAME_BASE;
-use store::layout::{REC, SEND, SPAWN};
 
 // How many messages the newest rec of p left in its queue; 0 where there is none.
 pub fn left(store: &[u32], p: usize) -> usize
     requires { IsImage store.now × OfState store.now (IsPlace p) }
     ensures { OfState store.now (λ s. result ≡ length (left_by (history_at s p))) }
 {
-    let mut i = entry_count(store, p);
-    while 0 < i {
-        i -= 1;
-        if kind(store, p, i) == REC {
+    for i in (0..entry_count(store, p)).rev() {
+        if let Kind::Rec = kind(store, p, i) {
             return queue_before(store, p, i).len() - 1;
         }
     }
@@ -57,15 +55,10 @@ pub fn may_undo(store: &[u32], p: u32, i: usize) -> bool
     requires { IsImage store.now × OfState store.now (IsNewest p i) }
     ensures { OfState store.now (λ s. result ≡ is_accepted (run (back p) s)) }
 {
-    let what = kind(store, p as usize, i);
-    if what == SEND {
-        return flying(store, p, i);
+    match kind(store, p as usize, i) {
+        Kind::Send => flying(store, p, i),
+        Kind::Rec => queue(store, p as usize).len() == left(store, p as usize),
+        Kind::Spawn => untouched(store, number(store, p as usize, i) as usize),
+        _ => true,
     }
-    if what == REC {
-        return queue(store, p as usize).len() == left(store, p as usize);
-    }
-    if what == SPAWN {
-        return untouched(store, number(store, p as usize, i) as usize);
-    }
-    true
 }

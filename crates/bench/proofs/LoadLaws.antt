@@ -14,8 +14,9 @@ use Rattle.rules.specs.State.{Sizes}
 use Rattle.rules.specs.Load.{good_sizes}
 use Rattle.store.specs.Layout.{needed}
 use Rattle.store.specs.Loading.{Outcome, load_number, load_value, after_load, load_into, LoadAnswers}
-use Rattle.store.specs.declared.load.Loaded.{Loaded}
-use Rattle.store.specs.declared.load.Loaded.TheVariants.{Done, BadSizes, BadModule}
+use Rattle.std.specs.Prelude.{Result, Ok, Err, ⊤}
+use Rattle.store.specs.declared.load.LoadError.{LoadError}
+use Rattle.store.specs.declared.load.LoadError.TheVariants.{BadSizes, BadModule}
 use Rattle.store.proofs.LoadCodeAnswers.{into_short, into_load, load_refused, load_loads}
 use Rattle.calls.specs.Calls.{outcome, LoadCall}
 use Rattle.calls.specs.Numbers.{value_place}
@@ -23,7 +24,7 @@ use Rattle.bench.specs.Exports.{returned}
 use Rattle.bench.proofs.Packed.{returned_is}
 use Rattle.term.proofs.PositionLaws.{bad_position}
 
-module _ (module' : List ℕ) (sizes : Sizes) (entry exit : List ℕ) (a : Loaded) (answers : LoadAnswers module' sizes entry exit a) where
+module _ (module' : List ℕ) (sizes : Sizes) (entry exit : List ℕ) (a : Result ⊤ LoadError) (answers : LoadAnswers module' sizes entry exit a) where
   returns_as : (r number value : ℕ) → number < value_place → r ≡ value * value_place + number → number ≡ load_number a → value ≡ load_value a → LoadCall module' sizes entry (returned r exit)
   unfolding LoadCall
   returns_as r number value small e n v = returned_is r number value exit small e ∙ (λ j. outcome ((n ∙ answers.number) j) ((v ∙ answers.value) j) (answers.left j))
@@ -44,11 +45,11 @@ module _ (module' : List ℕ) (sizes : Sizes) (entry exit : List ℕ) (a : Loade
           let v : (load_into module' sizes entry).value ≡ at = ap (λ (o : Outcome). o.value) (into_load module' sizes entry long ∙ ap (after_load entry) (load_refused module' sizes entry at good e)) in
           omega (arith, bad_position module' at e)
 
-  number_small : (b : Loaded) → load_number b < value_place
+  number_small : (b : Result ⊤ LoadError) → load_number b < value_place
   unfolding load_number
-  number_small Done = omega arith
-  number_small BadSizes = omega arith
-  number_small (BadModule at) = omega arith
+  number_small (Ok t) = omega arith
+  number_small (Err BadSizes) = omega arith
+  number_small (Err (BadModule bad)) = omega arith
 
   pub position_small : (at : ℕ) → at ≡ load_value a → at ≤ longest_module
   position_small at is = omega (arith, into_small, answers.value, is)

@@ -5,8 +5,7 @@ use mathlib.Core.List.{List}
 use native.Mathlib.Omega.{arith}
 use Rattle.store.specs.Loading.{Outcome}
 use Rattle.calls.specs.Calls.{outcome, RequestCall, LineCall, ListingCall}
-use Rattle.calls.specs.Numbers.{number_of, value_of, Performs, CommandCall, RollbackCall, TextCall, Lists, value_place, packed}
-use Rattle.calls.specs.declared.answers.Answer.{Answer}
+use Rattle.calls.specs.Numbers.{Answer, number_of, value_of, Performs, CommandCall, RollbackCall, TextCall, Lists, value_place, packed}
 use Rattle.calls.proofs.Determined.{determined}
 use Rattle.calls.proofs.AnswerNumbers.{number_below}
 use Rattle.rules.specs.Commands.{Command}

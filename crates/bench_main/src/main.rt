@@ -24,7 +24,8 @@ const LINE: usize = LONGEST_GOOD + 1;
 
 fn main(rt: HostRuntime) -> Result<()> {
     let mut store = [0u32; STORE];
-    load(&MODULE, PLACES, ENTRIES, WORDS, &mut store);
+    // Were it refused, the store would stay zeros, and every command would be told so.
+    let _ = load(&MODULE, PLACES, ENTRIES, WORDS, &mut store);
     let mut line = [0u8; LINE];
     let mut to = writer(&rt);
     let count = read_all(
@@ -35,6 +36,6 @@ fn main(rt: HostRuntime) -> Result<()> {
         &mut line,
     )?;
     answer_last(&mut to, &mut store, &line[..count])?;
-    list(&mut to, &store)?;
+    let _ = list(&mut to, &store)?;
     Ok(())
 }

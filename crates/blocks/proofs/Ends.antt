@@ -7,15 +7,15 @@ use lib.ListN.{length, take}
 use Rattle.text.proofs.WritingLaws.{wrote_length}
 use Rattle.replies.specs.Replied.{reply_room}
 use Rattle.lines.specs.Input.{Hears}
-use Rattle.lines.specs.declared.input.Block.{Block}
-use Rattle.lines.specs.declared.input.Block.TheVariants.{Taken}
+use Rattle.lines.specs.declared.input.Heard.{Heard}
+use Rattle.std.specs.Prelude.{Option, Some}
 use Rattle.replies.proofs.ReplyRoom.{text_taken}
 use Rattle.lines.proofs.GatherLaws.{gather_within, hears_taken}
 use Rattle.blocks.specs.Left.{TakesBlock}
 
 -- a block that is taken: what is said for it ends within an output that has room, and what is kept of a line within the line
-module _ {entry line input old exit after new : List ℕ} {count kept end : ℕ} {r : Block} (hears : Hears entry line count input old exit after new r) (taken : r ≡ Taken kept end) where
-  pub block_ends : reply_room * length input ≤ length old → end ≤ length new
+module _ {entry line input old exit after new : List ℕ} {count : ℕ} {r : Option Heard} {heard : Heard} (hears : Hears entry line count input old exit after new r) (taken : r ≡ Some heard) where
+  pub block_ends : reply_room * length input ≤ length old → heard.end ≤ length new
   block_ends room =
       let (has, t) = hears_taken hears taken in
       let few = (gather_within input line count has.1).few in
@@ -24,12 +24,12 @@ module _ {entry line input old exit after new : List ℕ} {count kept end : ℕ}
       let l = wrote_length t.says.text in
       omega arith
 
-  pub block_keeps : kept ≤ length line
+  pub block_keeps : heard.count ≤ length line
   block_keeps =
       let (has, t) = hears_taken hears taken in
       let w = (gather_within input line count has.1).within in
       let k = t.count_is in
       omega arith
 
-  pub block_takes : reply_room * length input ≤ length old → TakesBlock entry line count input exit after kept (take end new)
-  block_takes room = record { old = old; room = room; new = new; end = end; hears = subst (Hears entry line count input old exit after new) taken hears; said_is = refl }
+  pub block_takes : reply_room * length input ≤ length old → TakesBlock entry line count input exit after heard.count (take heard.end new)
+  block_takes room = record { old = old; room = room; new = new; end = heard.end; hears = subst (Hears entry line count input old exit after new) taken hears; said_is = refl }

@@ -1,9 +1,15 @@
 -- What a block of the input leaves of the store and the line.
-use Rattle.std.specs.Prelude.{ℕ, ◌*◌, ◌≤◌, ◌<◌, ◌≡◌, List, length, get_or, take}
+use Rattle.std.specs.Prelude.{ℕ, ◌*◌, ◌≤◌, ◌<◌, ◌≡◌, List, length, get_or, take, Some}
+use Rattle.std.specs.declared.ops.ControlFlow.{ControlFlow}
+use Rattle.std.specs.declared.ops.ControlFlow.TheVariants.{Continue, Break}
 use Rattle.text.specs.declared.keys.TheConstants.{LINE_FEED}
 use Rattle.replies.specs.Replied.{reply_room}
 use Rattle.lines.specs.Input.{gather, HasRoom, Hears}
-use Rattle.lines.specs.declared.input.Block.TheVariants.{Taken}
+
+-- How much is kept of a line that has not ended, whether there may be more input or not.
+abbrev pub kept_of : ControlFlow ℕ ℕ → ℕ
+kept_of (Continue count) = count
+kept_of (Break count) = count
 
 -- A block of commands is taken, with an output that has room for all that it says: so much is kept of a line that has not ended, and these bytes
 -- are to be printed.
@@ -12,7 +18,7 @@ pub record TakesBlock (entry line : List ℕ) (count : ℕ) (input exit after : 
   pub room : reply_room * length input ≤ length old
   pub new : List ℕ
   pub end : ℕ
-  pub hears : Hears entry line count input old exit after new (Taken kept end)
+  pub hears : Hears entry line count input old exit after new (Some (record { count = kept; end = end }))
   pub said_is : said ≡ take end new
 
 -- A block of commands is refused, for want of room in the line, and nothing changes.

@@ -1,13 +1,15 @@
 // A block of the input, line by line: the commands of the program bench, or a script.
-ghost use Rattle.std.specs.Prelude.{◌≡◌, ◌≤◌, ℕ, List, [], ◌∷◌, length, IfOk, OnErr, IsTrue, IsFalse};
+ghost use Rattle.std.specs.Prelude.{◌≡◌, ◌≤◌, ℕ, List, [], ◌∷◌, length, IfOk, OnErr};
+ghost use Rattle.std.specs.ControlFlow.{MatchControlFlow};
 ghost use Rattle.std.specs.Io.KnownBytes.{Appends};
-ghost use Rattle.blocks.specs.Left.{TakesBlock, RefusesBlock, Gathers, StopsAtLine};
+ghost use Rattle.blocks.specs.Left.{kept_of, TakesBlock, RefusesBlock, Gathers, StopsAtLine};
 ghost use Rattle.blocks.specs.Rooms.{block_room};
 
 use console::printing::print;
-use lines::input::{Block, keep, last_line, take_block};
+use lines::input::{keep, last_line, take_block};
 use scripts::script::perform;
 use std::io::{Result, Write};
+use std::ops::ControlFlow;
 use text::keys::LINE_FEED;
 use text::replies::REPLY_ROOM;
 
@@ -16,12 +18,8 @@ pub const BLOCK_ROOM: usize = 4096;
 
 const SAID: usize = REPLY_ROOM * BLOCK_ROOM;
 
-// What has been read of a line, and whether there may be more input.
-#[derive(Clone, Copy)]
-pub struct Turn {
-    pub count: usize,
-    pub more: bool,
-}
+// How much has been read of a line: there may be more input, or no more is read. It stands beside the line and not in it, as `TakesBlock` has it.
+pub type Turn = ControlFlow<usize, usize>;
 
 // A block of commands: what is said for the lines that end in it is printed. Where the line has no room for them none is taken, and no more is
 // read. An error is one of printing: the store and the line are then as the block made them.
@@ -33,27 +31,21 @@ pub fn answer_block<W: Write>(
     block: &[u8],
 ) -> Result<Turn>
     requires { length block.now ≤ block_room }
-    ensures ok { IfOk result (λ turn. turn.count ≤ length line.old) }
-    ensures ok_taken { IfOk result (λ turn. IsTrue turn.more → ((said : List ℕ)
-        × TakesBlock store.old line.old count block.now store.new line.new turn.count said
-        × Appends (W.contents to.old) (W.contents to.new) said)) }
-    ensures ok_refused { IfOk result (λ turn. IsFalse turn.more → RefusesBlock store.old line.old count store.new line.new) }
+    ensures ok { IfOk result (λ turn. kept_of turn ≤ length line.old) }
+    ensures ok_answered { IfOk result (λ turn. MatchControlFlow turn
+        (λ kept. (said : List ℕ)
+        × TakesBlock store.old line.old count block.now store.new line.new kept said
+        × Appends (W.contents to.old) (W.contents to.new) said)
+        (λ _. RefusesBlock store.old line.old count store.new line.new)) }
     ensures err { OnErr result ((kept : ℕ) × (said : List ℕ)
         × TakesBlock store.old line.old count block.now store.new line.new kept said) }
 {
     let mut out = [0u8; SAID];
-    let taken = take_block(store, line, count, block, &mut out);
-    let Block::Taken(kept, end) = taken else {
-        return Ok(Turn {
-            count: 0,
-            more: false,
-        });
+    let Some(heard) = take_block(store, line, count, block, &mut out) else {
+        return Ok(ControlFlow::Break(0));
     };
-    print(to, &out, end)?;
-    Ok(Turn {
-        count: kept,
-        more: true,
-    })
+    print(to, &out, heard.end)?;
+    Ok(ControlFlow::Continue(heard.count))
 }
 
 // One byte of a script, after so many of its line.
@@ -93,10 +85,8 @@ pub fn perform_block<W: Write>(
     ensures err_store { OnErr result (length store.new ≡ length store.old) }
 {
     let mut n = count;
-    let mut i = 0;
-    while i < block.len() {
-        n = take_byte(to, store, line, n, block[i])?;
-        i += 1;
+    for b in block {
+        n = take_byte(to, store, line, n, *b)?;
     }
     Ok(n)
 }

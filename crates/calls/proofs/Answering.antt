@@ -3,6 +3,7 @@ use Prim.Native.Nat.{ℕ}
 use mathlib.Core.Path.{◌≡◌, refl, sym, ◌∙◌, ap}
 use mathlib.Core.Bool.{Bool, true, false}
 use mathlib.Core.List.{List, ◌++◌}
+use Rattle.std.specs.Prelude.{Ok, Err}
 use Rattle.lists.specs.Decides.{Decides}
 use Rattle.lists.proofs.Decides.{refuted}
 use Rattle.rules.specs.Answers.{done}
@@ -15,10 +16,9 @@ use Rattle.store.specs.Image.{IsImage}
 use Rattle.store.specs.Loading.{Outcome}
 use Rattle.reading.specs.Reads.{Holds}
 use Rattle.calls.specs.Calls.{OfStore, outcome, count_in, stored, RequestCall}
-use Rattle.calls.specs.Numbers.{number_of, value_of, Performs, CommandCall}
+use Rattle.calls.specs.Numbers.{Answer, number_of, value_of, Performs, CommandCall}
 use Rattle.calls.specs.Answering.{Answers, Does, Obeys}
-use Rattle.calls.specs.declared.answers.Answer.{Answer}
-use Rattle.calls.specs.declared.answers.Answer.TheVariants.{Done, NotAState}
+use Rattle.calls.specs.declared.answers.Refusal.TheVariants.{NotAState}
 
 -- ---- any call on a store
 
@@ -37,7 +37,7 @@ with_state is_image told = record {
 
 -- ---- requests
 
-pub request_refused : (request : Request) (entry : List ℕ) → ¬ IsImage entry → Performs request entry entry NotAState
+pub request_refused : (request : Request) (entry : List ℕ) → ¬ IsImage entry → Performs request entry entry (Err NotAState)
 unfolding Performs RequestCall number_of value_of
 request_refused request entry no_image = without_state no_image
 
@@ -51,7 +51,7 @@ module _ (entry : List ℕ) (b : Bool) (test : Decides (IsImage entry) b) where
   pub call_ready : b ≡ true → IsImage entry
   call_ready e = test.sound e
 
-  pub call_refuses : (c : Command) → b ≡ false → CommandCall c entry entry NotAState
+  pub call_refuses : (c : Command) → b ≡ false → CommandCall c entry entry (Err NotAState)
   unfolding CommandCall
   call_refuses c e = request_refused (single c) entry (refuted test e)
 
@@ -65,7 +65,7 @@ pub obeys_refused : (plan : Plan) (s : State) (rest exit : List ℕ) (r : Answer
 unfolding stored of_plan count_in
 obeys_refused plan s rest exit r e v f = rw f (λ i. outcome (number_of r) (v i) (e i))
 
-pub obeys_done : (plan : Plan) (d : Deed) (w : Move) (s : State) (rest exit : List ℕ) → exit ≡ image (apply w s) ++ rest → plan ≡ accept d w → Obeys plan s rest exit (Done 0)
+pub obeys_done : (plan : Plan) (d : Deed) (w : Move) (s : State) (rest exit : List ℕ) → exit ≡ image (apply w s) ++ rest → plan ≡ accept d w → Obeys plan s rest exit (Ok 0)
 unfolding stored of_plan count_in number_of value_of
 obeys_done plan d w s rest exit e f = rw f (λ i. outcome done 0 (e i))
 

@@ -3,21 +3,21 @@ use Prim.Native.Nat.{ℕ}
 use mathlib.Core.Path.{◌≡◌, refl, sym, ◌∙◌, ap}
 use mathlib.Core.Bool.{cond}
 use mathlib.Core.List.{List}
+use Rattle.std.specs.Prelude.{Ok, Err}
 use lib.Dec.{eqb}
 use Rattle.rules.specs.Answers.{done, no_process, finished, waiting, stuck, wrong_command, place_taken, too_large, history_full, no_message, nothing_to_undo, held, no_checkpoint, not_a_state, no_room}
 use Rattle.store.specs.Loading.{Outcome}
 use Rattle.calls.specs.Calls.{outcome}
-use Rattle.calls.specs.Numbers.{number_of, value_of, Performs, TextCall, Lists}
+use Rattle.calls.specs.Numbers.{Answer, refusal_number, number_of, value_of, Performs, TextCall, Lists}
 use Rattle.calls.specs.Promises.{AnswersDetermined}
-use Rattle.calls.specs.declared.answers.Answer.{Answer}
-use Rattle.calls.specs.declared.answers.Answer.TheVariants.{Done, NoProcess, Finished, Waiting, Stuck, WrongCommand, PlaceTaken, TooLarge, HistoryFull, NoMessage, NothingToUndo, Held, NoCheckpoint, NotAState, NoRoom, BadLine}
+use Rattle.calls.specs.declared.answers.Refusal.{Refusal}
+use Rattle.calls.specs.declared.answers.Refusal.TheVariants.{NoProcess, Finished, Waiting, Stuck, WrongCommand, PlaceTaken, TooLarge, HistoryFull, NoMessage, NothingToUndo, Held, NoCheckpoint, NotAState, NoRoom, BadLine}
 use Rattle.calls.proofs.Determined.{request_determined, line_determined, listing_determined}
 
--- the answer with a number and a value
-unfoldable answer_of : ℕ → ℕ → Answer
-answer_of number value =
-    cond (eqb number done) (Done value)
-    (cond (eqb number no_process) NoProcess
+-- the refusal with a number, and the answer with a number and a value
+unfoldable refusal_of : ℕ → Refusal
+refusal_of number =
+    cond (eqb number no_process) NoProcess
     (cond (eqb number finished) Finished
     (cond (eqb number waiting) Waiting
     (cond (eqb number stuck) Stuck
@@ -30,26 +30,20 @@ answer_of number value =
     (cond (eqb number held) Held
     (cond (eqb number no_checkpoint) NoCheckpoint
     (cond (eqb number not_a_state) NotAState
-    (cond (eqb number no_room) NoRoom BadLine))))))))))))))
+    (cond (eqb number no_room) NoRoom BadLine)))))))))))))
+
+unfoldable answer_of : ℕ → ℕ → Answer
+answer_of number value = cond (eqb number done) (Ok value) (Err (refusal_of number))
+
+told_refusal : (refusal : Refusal) → answer_of (refusal_number refusal) 0 ≡ Err refusal
+unfolding answer_of refusal_of
+told_refusal NoProcess = refl
+told_refusal _ = refl
 
 told : (r : Answer) → answer_of (number_of r) (value_of r) ≡ r
 unfolding answer_of number_of value_of
-told (Done count) = refl
-told NoProcess = refl
-told Finished = refl
-told Waiting = refl
-told Stuck = refl
-told WrongCommand = refl
-told PlaceTaken = refl
-told TooLarge = refl
-told HistoryFull = refl
-told NoMessage = refl
-told NothingToUndo = refl
-told Held = refl
-told NoCheckpoint = refl
-told NotAState = refl
-told NoRoom = refl
-told BadLine = refl
+told (Ok count) = refl
+told (Err refusal) = told_refusal refusal
 
 pub same_answer : (r r' : Answer) → number_of r ≡ number_of r' → value_of r ≡ value_of r' → r ≡ r'
 same_answer r r' n v = sym (told r) ∙ ap (λ (x : ℕ). answer_of x (value_of r)) n ∙ ap (λ (x : ℕ). answer_of (number_of r') x) v ∙ told r'

@@ -6,8 +6,7 @@ use Rattle.rules.specs.Line.{Request, single}
 use Rattle.rules.specs.Replies.{of_plan, perform}
 use Rattle.reading.specs.Reads.{Holds}
 use Rattle.calls.specs.Calls.{outcome, stored}
-use Rattle.calls.specs.Numbers.{number_of, value_of}
-use Rattle.calls.specs.declared.answers.Answer.{Answer}
+use Rattle.calls.specs.Numbers.{Answer, number_of, value_of}
 
 -- of the state that the words hold, the answer and the words that are left are those of the request
 unfoldable pub Answers : Request → (entry exit : List ℕ) → Answer → Type 0

@@ -7,8 +7,7 @@ use Rattle.rules.specs.Sound.{Sound}
 use Rattle.rules.specs.Listing.{listing, listing_room}
 use Rattle.store.specs.Loading.{Outcome}
 use Rattle.calls.specs.Calls.{ListingCall}
-use Rattle.calls.specs.Numbers.{number_of, Lists}
-use Rattle.calls.specs.declared.answers.Answer.{Answer}
+use Rattle.calls.specs.Numbers.{Answer, number_of, Lists}
 
 pub record ListingRoom : Type 0 where
   -- no listing of a sound state is longer

@@ -1,48 +1,41 @@
--- 01's number and value for each case of the code's answers.
-use Rattle.std.specs.Prelude.{ℕ, ◌+◌, ◌*◌, List}
+-- 01's number and value for each of the code's answers.
+use Rattle.std.specs.Prelude.{ℕ, ◌+◌, ◌*◌, List, Result, Ok, Err}
 use Rattle.rules.specs.Commands.{Command}
 use Rattle.rules.specs.Line.{Request, single, rollback_to}
 use Rattle.rules.specs.Answers.{done, no_process, finished, waiting, stuck, wrong_command, place_taken, too_large, history_full, no_message, nothing_to_undo, held, no_checkpoint, not_a_state, no_room, bad_line}
 use Rattle.calls.specs.Calls.{outcome, RequestCall, LineCall, ListingCall}
-use Rattle.calls.specs.declared.answers.Answer.{Answer}
-use Rattle.calls.specs.declared.answers.Answer.TheVariants.{Done, NoProcess, Finished, Waiting, Stuck, WrongCommand, PlaceTaken, TooLarge, HistoryFull, NoMessage, NothingToUndo, Held, NoCheckpoint, NotAState, NoRoom, BadLine}
+use Rattle.calls.specs.declared.answers.Refusal.{Refusal}
+use Rattle.calls.specs.declared.answers.Refusal.TheVariants.{NoProcess, Finished, Waiting, Stuck, WrongCommand, PlaceTaken, TooLarge, HistoryFull, NoMessage, NothingToUndo, Held, NoCheckpoint, NotAState, NoRoom, BadLine}
+
+-- a rollback's count of events, a listing's length or else 0; or why nothing was done
+abbrev pub Answer : Type 0
+Answer = Result ℕ Refusal
+
+abbrev pub refusal_number : Refusal → ℕ
+refusal_number NoProcess = no_process
+refusal_number Finished = finished
+refusal_number Waiting = waiting
+refusal_number Stuck = stuck
+refusal_number WrongCommand = wrong_command
+refusal_number PlaceTaken = place_taken
+refusal_number TooLarge = too_large
+refusal_number HistoryFull = history_full
+refusal_number NoMessage = no_message
+refusal_number NothingToUndo = nothing_to_undo
+refusal_number Held = held
+refusal_number NoCheckpoint = no_checkpoint
+refusal_number NotAState = not_a_state
+refusal_number NoRoom = no_room
+refusal_number BadLine = bad_line
 
 unfoldable pub number_of : Answer → ℕ
-number_of (Done count) = done
-number_of NoProcess = no_process
-number_of Finished = finished
-number_of Waiting = waiting
-number_of Stuck = stuck
-number_of WrongCommand = wrong_command
-number_of PlaceTaken = place_taken
-number_of TooLarge = too_large
-number_of HistoryFull = history_full
-number_of NoMessage = no_message
-number_of NothingToUndo = nothing_to_undo
-number_of Held = held
-number_of NoCheckpoint = no_checkpoint
-number_of NotAState = not_a_state
-number_of NoRoom = no_room
-number_of BadLine = bad_line
+number_of (Ok count) = done
+number_of (Err refusal) = refusal_number refusal
 
 -- "Positions and counts are 0 elsewhere."
 unfoldable pub value_of : Answer → ℕ
-value_of (Done count) = count
-value_of NoProcess = 0
-value_of Finished = 0
-value_of Waiting = 0
-value_of Stuck = 0
-value_of WrongCommand = 0
-value_of PlaceTaken = 0
-value_of TooLarge = 0
-value_of HistoryFull = 0
-value_of NoMessage = 0
-value_of NothingToUndo = 0
-value_of Held = 0
-value_of NoCheckpoint = 0
-value_of NotAState = 0
-value_of NoRoom = 0
-value_of BadLine = 0
+value_of (Ok count) = count
+value_of (Err refusal) = 0
 
 -- What the code of a call promises: its answer and the words that it leaves are an outcome of the call.
 unfoldable pub Performs : Request → (entry exit : List ℕ) → Answer → Type 0

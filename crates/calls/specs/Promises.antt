@@ -15,8 +15,7 @@ use Rattle.store.specs.Layout.{needed, image}
 use Rattle.store.specs.Image.{IsImage}
 use Rattle.store.specs.Loading.{Outcome}
 use Rattle.calls.specs.Calls.{outcome, refused_store, stored, RequestCall, LineCall, ListingCall, LoadCall}
-use Rattle.calls.specs.Numbers.{Performs, TextCall, Lists}
-use Rattle.calls.specs.declared.answers.Answer.{Answer}
+use Rattle.calls.specs.Numbers.{Answer, Performs, TextCall, Lists}
 
 -- "any two outcomes allowed by it are proved equal"
 pub record Determined : Type 0 where

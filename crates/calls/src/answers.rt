@@ -1,11 +1,10 @@
 // What the calls on a store answer.
 ghost use Rattle.std.specs.Prelude.{◌≡◌};
-ghost use Rattle.calls.specs.Numbers.{number_of, value_of};
+ghost use Rattle.calls.specs.Numbers.{refusal_number, number_of, value_of};
 
-// 01's cases, in the order of its numbers. The number that goes with Done is a rollback's count of events or a listing's length, else 0.
-#[derive(Clone, Copy)]
-pub enum Answer {
-    Done(u32),
+// Why a call did nothing, in the order of 01's numbers.
+#[derive(Clone, Copy, Debug, PartialEq, Eq)]
+pub enum Refusal {
     NoProcess,
     Finished,
     Waiting,
@@ -23,50 +22,49 @@ pub enum Answer {
     BadLine,
 }
 
+// The number that goes with an accepted call is a rollback's count of events or a listing's length, else 0.
+pub type Answer = Result<u32, Refusal>;
+
+impl From<Refusal> for u32 {
+    ghost from_gives = { λ refusal number. number ≡ refusal_number refusal };
+
+    // 01's number of a refusal.
+    fn from(refusal: Refusal) -> u32 {
+        match refusal {
+            Refusal::NoProcess => 3,
+            Refusal::Finished => 4,
+            Refusal::Waiting => 5,
+            Refusal::Stuck => 6,
+            Refusal::WrongCommand => 7,
+            Refusal::PlaceTaken => 8,
+            Refusal::TooLarge => 9,
+            Refusal::HistoryFull => 10,
+            Refusal::NoMessage => 11,
+            Refusal::NothingToUndo => 12,
+            Refusal::Held => 13,
+            Refusal::NoCheckpoint => 14,
+            Refusal::NotAState => 15,
+            Refusal::NoRoom => 16,
+            Refusal::BadLine => 17,
+        }
+    }
+}
+
 // 01's number of an answer.
+#[tactic(auto, unfolding(crate::specs::Numbers::number_of))]
 pub fn number(a: Answer) -> u32
     ensures { result ≡ number_of a }
 {
     match a {
-        Answer::Done(_count) => 0,
-        Answer::NoProcess => 3,
-        Answer::Finished => 4,
-        Answer::Waiting => 5,
-        Answer::Stuck => 6,
-        Answer::WrongCommand => 7,
-        Answer::PlaceTaken => 8,
-        Answer::TooLarge => 9,
-        Answer::HistoryFull => 10,
-        Answer::NoMessage => 11,
-        Answer::NothingToUndo => 12,
-        Answer::Held => 13,
-        Answer::NoCheckpoint => 14,
-        Answer::NotAState => 15,
-        Answer::NoRoom => 16,
-        Answer::BadLine => 17,
+        Ok(_count) => 0,
+        Err(refusal) => u32::from(refusal),
     }
 }
 
 // The count or length that goes with it.
+#[tactic(auto, unfolding(crate::specs::Numbers::value_of))]
 pub fn value(a: Answer) -> u32
     ensures { result ≡ value_of a }
 {
-    match a {
-        Answer::Done(count) => count,
-        Answer::NoProcess => 0,
-        Answer::Finished => 0,
-        Answer::Waiting => 0,
-        Answer::Stuck => 0,
-        Answer::WrongCommand => 0,
-        Answer::PlaceTaken => 0,
-        Answer::TooLarge => 0,
-        Answer::HistoryFull => 0,
-        Answer::NoMessage => 0,
-        Answer::NothingToUndo => 0,
-        Answer::Held => 0,
-        Answer::NoCheckpoint => 0,
-        Answer::NotAState => 0,
-        Answer::NoRoom => 0,
-        Answer::BadLine => 0,
-    }
+    a.unwrap_or(0)
 }

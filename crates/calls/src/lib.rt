@@ -1,4 +1,4 @@
-// What the public calls on a store answer: one enum, its numbers and values; and those of a load.
+// What the public calls on a store answer, a count or a refusal, with its numbers and values; and those of a load.
 #![tactic(auto)]
 
 pub mod answers;

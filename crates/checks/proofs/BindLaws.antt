@@ -6,6 +6,7 @@ use mathlib.Core.List.{List, ◌∷◌}
 use native.Mathlib.Omega.{arith}
 use native.Mathlib.Nat.{add-zero}
 use native.Mathlib.Numerals.{add-one}
+use Rattle.std.specs.Prelude.{Result, Ok, Err}
 use lib.Dec.{eqb}
 use lib.ListN.{length, get_or, set}
 use Rattle.lists.specs.Lists.{member}
@@ -15,8 +16,7 @@ use Rattle.term.specs.Table.{arity, table, row_of, child_count}
 use Rattle.term.specs.Tree.{Terms, int, node, end, ◌then◌, words, words_of, count}
 use Rattle.term.specs.Binding.{Walk, breaks, passes, and_then, binds, binds_all}
 use Rattle.rows.specs.Kinds.{ChildCount}
-use Rattle.checks.specs.declared.binding.Gone.{Gone}
-use Rattle.checks.specs.declared.binding.Gone.TheVariants.{Past, Broke}
+use Rattle.rows.specs.declared.terms.BadWord.{BadWord}
 use Rattle.checks.specs.Walking.{Marks, Stands, Agrees, Onward, Binds, variables}
 use Rattle.term.proofs.TreeLaws.{◌and_all◌, words_all, count_all}
 use Rattle.term.proofs.ShapeLaws.{fits_parts}
@@ -85,13 +85,13 @@ module _ (tag n k : ℕ) (us ts : Terms) (scope : List ℕ) (at : ℕ) (checks :
   binds_new e m = ap on (bind_fresh tag n k us scope at checks e m) ∙ ap (λ (j : ℕ). binds_all (k ∷ scope) ts j checks) (sym (add-one at))
 
 -- a walk that goes on goes on from further back
-pub onward_from : (at b : ℕ) (r : Gone) → at ≤ b → Onward b r → Onward at r
+pub onward_from : (at b : ℕ) (r : Result ℕ BadWord) → at ≤ b → Onward b r → Onward at r
 unfolding Onward
-onward_from at b (Past a) h o = omega arith
-onward_from at b (Broke p) h o = tt
+onward_from at b (Ok a) h o = omega arith
+onward_from at b (Err bad) h o = tt
 
 -- what the walk over the others agrees with, the whole does
-pub agrees_with : (stop stop' : ℕ) (left : List ℕ → List ℕ → Type 0) (w w' : Walk) (r : Gone) → stop ≡ stop' → w ≡ w' → Agrees stop' left w' r → Agrees stop left w r
+pub agrees_with : (stop stop' : ℕ) (left : List ℕ → List ℕ → Type 0) (w w' : Walk) (r : Result ℕ BadWord) → stop ≡ stop' → w ≡ w' → Agrees stop' left w' r → Agrees stop left w r
 agrees_with stop stop' left w w' r e i a = rw (e, i) a
 
 -- no terms stand where the row has ended, or where it has too few words
@@ -136,7 +136,7 @@ leaf_next l at owed ts h e =
     rw q at (stands_second l (at + 1) (count (h.children and_all h.others)) (owed - 1) h.children h.others h.other_count h.after)
 
 module _ (l : List ℕ) (at owed : ℕ) (marks : List Bool) where
-  pub bind_none : owed ≡ 0 → Binds l at owed marks marks (Past at)
+  pub bind_none : owed ≡ 0 → Binds l at owed marks marks (Ok at)
   unfolding Onward Agrees binds_all words_of
   bind_none z =
       record {
@@ -145,17 +145,17 @@ module _ (l : List ℕ) (at owed : ℕ) (marks : List Bool) where
       }
 
   module _ (ne : ¬ (owed ≡ 0)) where
-    pub bind_past : length l ≤ at → Binds l at owed marks marks (Broke at)
+    pub bind_past : length l ≤ at → Binds l at owed marks marks (Err (record { 0 = at }))
     unfolding Onward
     bind_past h = record { answer = λ ts scope checks s m. absurd (none_past l at owed ts ne h s); onward = tt }
 
     module _ (lt : at < length l) where
-      pub bind_short : length l - at < owed → Binds l at owed marks marks (Broke at)
+      pub bind_short : length l - at < owed → Binds l at owed marks marks (Err (record { 0 = at }))
       unfolding Onward
       bind_short h = record { answer = λ ts scope checks s m. absurd (none_short l at owed ts h s); onward = tt }
 
       module _ (t : ℕ) (et : t ≡ tag_of (get_or l at 0)) where
-        pub bind_integer : t ≡ tag_integer → (after : List Bool) (r : Gone) → Binds l (at + 2) (owed - 1) marks after r → Binds l at owed marks after r
+        pub bind_integer : t ≡ tag_integer → (after : List Bool) (r : Result ℕ BadWord) → Binds l (at + 2) (owed - 1) marks after r → Binds l at owed marks after r
         bind_integer e after r b = record { answer = go; onward = onward_from at (at + 2) r (omega arith) b.onward }
           where
             go : (ts : Terms) (scope checks : List ℕ) → Stands l at owed ts → Marks variables marks scope
@@ -166,7 +166,7 @@ module _ (l : List ℕ) (at owed : ℕ) (marks : List Bool) where
                 (b.answer h.others scope checks h.next m)
 
         module _ (d : ¬ (t ≡ tag_integer)) where
-          pub bind_node : ¬ (t ≡ tag_variable) → (c : ℕ) → ChildCount (get_or l at 0) c → (after : List Bool) (r : Gone) → Binds l (at + 1) (owed - 1 + c) marks after r → Binds l at owed marks after r
+          pub bind_node : ¬ (t ≡ tag_variable) → (c : ℕ) → ChildCount (get_or l at 0) c → (after : List Bool) (r : Result ℕ BadWord) → Binds l (at + 1) (owed - 1 + c) marks after r → Binds l at owed marks after r
           bind_node v c hc after r b = record { answer = go; onward = onward_from at (at + 1) r (omega arith) b.onward }
             where
               go : (ts : Terms) (scope checks : List ℕ) → Stands l at owed ts → Marks variables marks scope
@@ -177,41 +177,44 @@ module _ (l : List ℕ) (at owed : ℕ) (marks : List Bool) where
                   (ap (λ (us : Terms). binds_all scope us at checks) h.is ∙ binds_node h.tag h.n h.k h.children h.others scope at checks (λ i. v (et ∙ h.tag_is ∙ i)))
                   (b.answer (h.children and_all h.others) scope checks (node_next l at owed c ts ne hc h) m)
 
-          module _ (v : t ≡ tag_variable) (k : ℕ) (ek : k ≡ k_of (get_or l at 0)) where
-            pub bind_out : variables ≤ k → Binds l at owed marks marks (Broke at)
-            unfolding Onward
-            bind_out b =
-                record {
-                  answer = λ ts scope checks s m.
-                      let h = stands_node l at owed ts ne (λ i. d (et ∙ i)) s in
-                      absurd (omega (arith, variable_k h.places h.spot (get_or l at 0) h.fit (sym et ∙ v)));
-                  onward = tt;
-                }
+        no_integer : t ≡ tag_variable → ¬ (tag_of (get_or l at 0) ≡ tag_integer)
+        no_integer v i = omega (arith, et, v, i)
 
-            pub bind_again : k < variables → get_or marks k false ≡ true → Binds l at owed marks marks (Broke at)
-            unfolding Onward Agrees
-            bind_again b e =
-                record {
-                  answer = λ ts scope checks s m.
-                      let h = stands_node l at owed ts ne (λ i. d (et ∙ i)) s in
-                      let w : binds_all scope ts at checks ≡ breaks at =
-                      ap (λ (us : Terms). binds_all scope us at checks) h.is
-                      ∙ binds_again h.tag h.n h.k h.children h.others scope at checks (sym h.tag_is ∙ sym et ∙ v) (ap (λ (j : ℕ). member j scope) (sym h.k_is ∙ sym ek) ∙ sym (m.told k b) ∙ e)
-                      in
-                      rw w refl;
-                  onward = tt;
-                }
+        module _ (v : t ≡ tag_variable) (k : ℕ) (ek : k ≡ k_of (get_or l at 0)) where
+          pub bind_out : variables ≤ k → Binds l at owed marks marks (Err (record { 0 = at }))
+          unfolding Onward
+          bind_out b =
+              record {
+                answer = λ ts scope checks s m.
+                    let h = stands_node l at owed ts ne (no_integer v) s in
+                    absurd (omega (arith, variable_k h.places h.spot (get_or l at 0) h.fit (sym et ∙ v)));
+                onward = tt;
+              }
 
-            pub bind_new : k < variables → get_or marks k false ≡ false → (after : List Bool) (r : Gone) → Binds l (at + 1) (owed - 1) (set marks k true) after r → Binds l at owed marks after r
-            bind_new j e after r b = record { answer = go; onward = onward_from at (at + 1) r (omega arith) b.onward }
-              where
-                go : (ts : Terms) (scope checks : List ℕ) → Stands l at owed ts → Marks variables marks scope
-                    → Agrees (at + length (words_of ts)) (λ scope' checks'. Marks variables after scope' × (checks' ≡ checks)) (binds_all scope ts at checks) r
-                go ts scope checks s m =
-                    let h = stands_node l at owed ts ne (λ i. d (et ∙ i)) s in
-                    let kk : k ≡ h.k = ek ∙ h.k_is in
-                    let leaf = variable_leaf l at owed ts h (sym et ∙ v) in
-                    agrees_with _ _ _ _ _ r (node_stop l at owed ts h ∙ leaf_stop at h.children h.others leaf)
-                    (ap (λ (us : Terms). binds_all scope us at checks) h.is
-                    ∙ binds_new h.tag h.n h.k h.children h.others scope at checks (sym h.tag_is ∙ sym et ∙ v) (ap (λ (i : ℕ). member i scope) (sym kk) ∙ sym (m.told k j) ∙ e))
-                    (rw kk at (b.answer h.others (k ∷ scope) checks (leaf_next l at owed ts h leaf) (mark_more variables marks scope k j m)))
+          pub bind_again : k < variables → get_or marks k false ≡ true → Binds l at owed marks marks (Err (record { 0 = at }))
+          unfolding Onward Agrees
+          bind_again b e =
+              record {
+                answer = λ ts scope checks s m.
+                    let h = stands_node l at owed ts ne (no_integer v) s in
+                    let w : binds_all scope ts at checks ≡ breaks at =
+                    ap (λ (us : Terms). binds_all scope us at checks) h.is
+                    ∙ binds_again h.tag h.n h.k h.children h.others scope at checks (sym h.tag_is ∙ sym et ∙ v) (ap (λ (j : ℕ). member j scope) (sym h.k_is ∙ sym ek) ∙ sym (m.told k b) ∙ e)
+                    in
+                    rw w refl;
+                onward = tt;
+              }
+
+          pub bind_new : k < variables → get_or marks k false ≡ false → (after : List Bool) (r : Result ℕ BadWord) → Binds l (at + 1) (owed - 1) (set marks k true) after r → Binds l at owed marks after r
+          bind_new j e after r b = record { answer = go; onward = onward_from at (at + 1) r (omega arith) b.onward }
+            where
+              go : (ts : Terms) (scope checks : List ℕ) → Stands l at owed ts → Marks variables marks scope
+                  → Agrees (at + length (words_of ts)) (λ scope' checks'. Marks variables after scope' × (checks' ≡ checks)) (binds_all scope ts at checks) r
+              go ts scope checks s m =
+                  let h = stands_node l at owed ts ne (no_integer v) s in
+                  let kk : k ≡ h.k = ek ∙ h.k_is in
+                  let leaf = variable_leaf l at owed ts h (sym et ∙ v) in
+                  agrees_with _ _ _ _ _ r (node_stop l at owed ts h ∙ leaf_stop at h.children h.others leaf)
+                  (ap (λ (us : Terms). binds_all scope us at checks) h.is
+                  ∙ binds_new h.tag h.n h.k h.children h.others scope at checks (sym h.tag_is ∙ sym et ∙ v) (ap (λ (i : ℕ). member i scope) (sym kk) ∙ sym (m.told k j) ∙ e))
+                  (rw kk at (b.answer h.others (k ∷ scope) checks (leaf_next l at owed ts h leaf) (mark_more variables marks scope k j m)))

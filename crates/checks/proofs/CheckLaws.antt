@@ -4,6 +4,7 @@ use mathlib.Core.Path.{◌≡◌, refl, sym, ap, ◌∙◌}
 use mathlib.Core.Option.{none, some}
 use mathlib.Core.List.{List, [], ◌∷◌}
 use native.Mathlib.Omega.{arith}
+use Rattle.std.specs.Prelude.{Result, Ok, Err, IsErrAnd, ⊤}
 use lib.ListN.{length, get_or, take, replicate}
 use Rattle.lists.proofs.Tests.{ltb_of, ltb_over, eqb_of, eqb_apart, none_not_some, some_injective}
 use Rattle.term.specs.Table.{spot_function}
@@ -14,24 +15,22 @@ use Rattle.term.specs.Fit.{FitAll}
 use Rattle.term.specs.Binding.{breaks, functions_keep}
 use Rattle.term.specs.Module.{longest_module, arities_of, rules_from, breaker, first_breaker, check_module}
 use Rattle.term.specs.Control.{module_arities}
-use Rattle.checks.specs.declared.module.Checked.{Checked}
-use Rattle.checks.specs.declared.module.Checked.TheVariants.{Good, Bad}
-use Rattle.checks.specs.declared.module.Functions.{Functions}
-use Rattle.checks.specs.declared.module.Functions.TheVariants.{Count, Fails}
-use Rattle.checks.specs.Checking.{bad_of, fail_of, ReadFunctions, KeepsFunctions}
+use Rattle.rows.specs.declared.terms.BadWord.{BadWord}
+use Rattle.checks.specs.Checking.{bad_of, ReadFunctions, KeepsFunctions}
 use Rattle.term.proofs.ShapeLaws.{Functions as ShapedFunctions, shaped_module}
+use Rattle.shape.proofs.ReadingLaws.{passed_on}
 use Rattle.term.proofs.GoodLaws.{answer, check_is}
 
 -- an answer of the module check is the only one that its contract allows
-pub one_answer : (r s : Checked) → bad_of r ≡ bad_of s → r ≡ s
+pub one_answer : (r s : Result ⊤ BadWord) → bad_of r ≡ bad_of s → r ≡ s
 unfolding bad_of
-one_answer Good Good e = refl
-one_answer Good (Bad p) e = none_not_some e
-one_answer (Bad p) Good e = none_not_some (sym e)
-one_answer (Bad p) (Bad q) e = ap Bad (some_injective e)
+one_answer (Ok done) (Ok done') e = refl
+one_answer (Ok done) (Err bad) e = none_not_some e
+one_answer (Err bad) (Ok done) e = none_not_some (sym e)
+one_answer (Err bad) (Err bad') e = let same : bad ≡ bad' = λ i. record { 0 = some_injective e i } in ap Err same
 
 -- what the check returns, by the tests that it makes
-pub module_long : (l : List ℕ) → longest_module < length l → bad_of (Bad longest_module) ≡ check_module l
+pub module_long : (l : List ℕ) → longest_module < length l → bad_of {A = ⊤} (Err (record { 0 = longest_module })) ≡ check_module l
 unfolding bad_of answer
 module_long l h = sym (check_is l ∙ rw (ltb_of longest_module (length l) h))
 
@@ -55,24 +54,30 @@ take_first zero counts ne = absurd (ne refl)
 take_first (suc m) [] ne = absurd (ne refl)
 take_first (suc m) (x ∷ counts) ne = refl
 
-module _ (l counts : List ℕ) (r : Functions) (short : length l ≤ longest_module) (h : ReadFunctions l counts r) where
-  pub module_fails : (p : ℕ) → r ≡ Fails p → bad_of (Bad p) ≡ check_module l
-  unfolding bad_of fail_of answer
-  module_fails p e =
-      let s : module_shape l ≡ some p = sym h.answer ∙ ap fail_of e in
-      sym (check_is l ∙ rw (ltb_over longest_module (length l) short, s))
+-- no more functions are counted than there is room for
+pub counted_few : (l counts : List ℕ) (m : ℕ) → ReadFunctions l counts (Ok m) → m ≤ length counts
+counted_few l counts m h = (h.counted m refl).1
 
-  module _ (m : ℕ) (e : r ≡ Count m) where
+module _ (l counts : List ℕ) (short : length l ≤ longest_module) where
+  pub functions_fail : (bad : BadWord) → ReadFunctions l counts (Err bad) → some bad.0 ≡ check_module l
+  unfolding bad_of answer
+  functions_fail bad h = sym (check_is l ∙ rw (ltb_over longest_module (length l) short, sym h.answer))
+
+  pub module_fails : (bad : BadWord) → ReadFunctions l counts (Err bad) → (r : Result ⊤ BadWord) → IsErrAnd r (λ e. e ≡ bad) → bad_of r ≡ check_module l
+  unfolding bad_of
+  module_fails bad h r p = rw (passed_on r bad p) (functions_fail bad h)
+
+  module _ (m : ℕ) (h : ReadFunctions l counts (Ok m)) where
     passed : module_shape l ≡ none
-    unfolding fail_of
-    passed = sym h.answer ∙ ap fail_of e
+    unfolding bad_of
+    passed = sym h.answer
 
     functions : ShapedFunctions l
     functions = shaped_module l passed
 
     noted : take m counts ≡ arities_of (terms_of l)
     unfolding module_arities
-    noted = (h.counted m e).0
+    noted = (h.counted m refl).0
 
     check_rest : check_module l ≡ breaker (rules_from (take m counts) (terms_of l))
     unfolding answer first_breaker
@@ -84,11 +89,11 @@ module _ (l counts : List ℕ) (r : Functions) (short : length l ≤ longest_mod
     first_count : get_or (take m counts) 0 0 ≡ get_or counts 0 0
     first_count = take_first m counts counts_there
 
-    pub module_first : ¬ (get_or counts 0 0 ≡ 0) → bad_of (Bad 0) ≡ check_module l
+    pub module_first : ¬ (get_or counts 0 0 ≡ 0) → bad_of {A = ⊤} (Err (record { 0 = 0 })) ≡ check_module l
     unfolding bad_of
     module_first d = first_rules (take m counts) (terms_of l) (λ z. d (sym first_count ∙ z)) ∙ sym check_rest
 
-    pub module_rules : get_or counts 0 0 ≡ 0 → (q : Checked) → KeepsFunctions l (take m counts) q → bad_of q ≡ check_module l
+    pub module_rules : get_or counts 0 0 ≡ 0 → (q : Result ⊤ BadWord) → KeepsFunctions l (take m counts) q → bad_of q ≡ check_module l
     module_rules z q k =
         k.answer functions.terms (suc functions.others) functions.fit functions.same_words
         ∙ ap (λ (ts : Terms). breaker (functions_keep (take m counts) ts 0 [])) (sym functions.read_as)

@@ -1,9 +1,10 @@
 -- What the code's control check returns, by the tests that it makes.
-use Prim.Native.Nat.{ℕ, ◌+◌, ◌≤◌, ◌<◌}
+use Prim.Native.Nat.{ℕ, ◌≤◌, ◌<◌}
 use mathlib.Core.Path.{◌≡◌, refl, sym, ap, ◌∙◌}
 use mathlib.Core.Bool.{Bool, true, false}
 use mathlib.Core.Option.{none, some}
 use mathlib.Core.List.{List, [], ◌∷◌, append-nil}
+use Rattle.std.specs.Prelude.{Result, Ok, Err, is_ok}
 use lib.ListN.{length, replicate, length-replicate, get_or-replicate, drop_of_length-le}
 use Rattle.lists.specs.Lists.{member}
 use Rattle.term.specs.Table.{spot_expression}
@@ -14,12 +15,9 @@ use Rattle.term.specs.Fit.{FitAll}
 use Rattle.term.specs.Binding.{Walk, breaks, passes, and_then, keeps, keeps_all}
 use Rattle.term.specs.Module.{breaker}
 use Rattle.term.specs.Control.{keeps_rules, good_control}
-use Rattle.shape.specs.declared.shape.Reading.{Reading}
-use Rattle.shape.specs.declared.shape.Reading.TheVariants.{Ends, Fails}
+use Rattle.rows.specs.declared.terms.BadWord.{BadWord}
 use Rattle.shape.specs.Reading.{onward, Reads}
-use Rattle.checks.specs.declared.binding.Gone.{Gone}
-use Rattle.checks.specs.declared.binding.Gone.TheVariants.{Past, Broke}
-use Rattle.checks.specs.Walking.{Marks, Stands, Agrees, Keeps, variables, check_numbers}
+use Rattle.checks.specs.Walking.{Marks, Stands, Keeps, variables, check_numbers}
 use Rattle.term.proofs.RowLaws.{drop_head}
 use Rattle.term.proofs.TreeLaws.{words_one}
 use Rattle.term.proofs.ShapeLaws.{Shaped, shaped_control}
@@ -57,52 +55,48 @@ module _ (places : ℕ) (arities l : List ℕ) where
   unfolding keeps_rules
   good_rules t e = rw (e, keeps_rules)
 
-  module _ (r : Reading) (h : Reads places l 0 spot_expression 1 r) where
-    reading : control_shape places l ≡ onward places [] l [] r
-    unfolding control_shape
-    reading = h.answer [] []
+  reading : (r : Result ℕ BadWord) → Reads places l 0 spot_expression 1 r → control_shape places l ≡ onward places [] l [] r
+  unfolding control_shape
+  reading r h = h.answer [] []
 
-    pub control_fails : (p : ℕ) → r ≡ Fails p → false ≡ good_control places arities l
-    unfolding onward
-    control_fails p e = bad_shape p (reading ∙ ap (onward places [] l []) e)
+  pub control_fails : (bad : BadWord) → Reads places l 0 spot_expression 1 (Err bad) → false ≡ good_control places arities l
+  unfolding onward
+  control_fails bad h = bad_shape bad.0 (reading (Err bad) h)
 
-    module _ (a : ℕ) (e : r ≡ Ends a) where
-      pub control_more : a < length l → false ≡ good_control places arities l
-      unfolding onward shape wanted
-      control_more more = bad_shape a (reading ∙ ap (onward places [] l []) e ∙ rw (drop_head l a more))
+  module _ (a : ℕ) (h : Reads places l 0 spot_expression 1 (Ok a)) where
+    pub control_more : a < length l → false ≡ good_control places arities l
+    unfolding onward shape wanted
+    control_more more = bad_shape a (reading (Ok a) h ∙ rw (drop_head l a more))
 
-      module _ (all : length l ≤ a) (after : List Bool) (g : Gone) (k : Keeps l 0 1 (replicate variables false) arities false (replicate check_numbers false) after g) where
-        shaped : control_shape places l ≡ none
-        unfolding onward shape
-        shaped = reading ∙ ap (onward places [] l []) e ∙ rw (drop_of_length-le l all)
+    module _ (all : length l ≤ a) (after : List Bool) where
+      shaped : control_shape places l ≡ none
+      unfolding onward shape
+      shaped = reading (Ok a) h ∙ rw (drop_of_length-le l all)
 
-        control : Shaped places spot_expression l
-        control = shaped_control places l shaped
+      control : Shaped places spot_expression l
+      control = shaped_control places l shaped
 
-        stands : Stands l 0 1 (control.term then end)
-        unfolding FitAll count
-        stands =
-            record {
-              places = places;
-              spots = spot_expression ∷ [];
-              rest = [];
-              fit = (control.fit, tt);
-              many = refl;
-              row = sym (append-nil (words_of (control.term then end)) ∙ words_one control.term ∙ control.same_words);
-            }
+      stands : Stands l 0 1 (control.term then end)
+      unfolding FitAll count
+      stands =
+          record {
+            places = places;
+            spots = spot_expression ∷ [];
+            rest = [];
+            fit = (control.fit, tt);
+            many = refl;
+            row = sym (append-nil (words_of (control.term then end)) ∙ words_one control.term ∙ control.same_words);
+          }
 
-        agrees : Agrees (0 + length (words_of (control.term then end))) (λ scope checks. Marks check_numbers after checks) (keeps_all arities false [] (control.term then end) 0 []) g
-        agrees = k.answer (control.term then end) [] [] stands (no_marks variables) (no_marks check_numbers)
+      same_rules : good_control places arities l ≡ keeps_rules arities control.term
+      same_rules = good_shape shaped ∙ ap (keeps_rules arities) control.read_as
 
-        same_rules : good_control places arities l ≡ keeps_rules arities control.term
-        same_rules = good_shape shaped ∙ ap (keeps_rules arities) control.read_as
-
-        pub control_breaks : (p : ℕ) → g ≡ Broke p → false ≡ good_control places arities l
-        unfolding breaker
-        control_breaks p eg =
-            sym (same_rules ∙ bad_rules control.term p (one_breaker arities false [] control.term 0 [] ∙ ap breaker (agrees_broke _ _ _ g p agrees eg)))
-
-        pub control_good : (b : ℕ) → g ≡ Past b → true ≡ good_control places arities l
-        unfolding breaker
-        control_good b eg =
-            sym (same_rules ∙ good_rules control.term (one_breaker arities false [] control.term 0 [] ∙ ap breaker (agrees_past _ _ _ g b agrees eg).is))
+      -- the walk keeps the rules, or a word breaks one
+      pub control_kept : (r : Result ℕ BadWord) → Keeps l 0 1 (replicate variables false) arities false (replicate check_numbers false) after r → is_ok r ≡ good_control places arities l
+      unfolding breaker
+      control_kept (Err bad) k =
+          let agrees = k.answer (control.term then end) [] [] stands (no_marks variables) (no_marks check_numbers) in
+          sym (same_rules ∙ bad_rules control.term bad.0 (one_breaker arities false [] control.term 0 [] ∙ ap breaker (agrees_broke _ _ _ bad agrees)))
+      control_kept (Ok b) k =
+          let agrees = k.answer (control.term then end) [] [] stands (no_marks variables) (no_marks check_numbers) in
+          sym (same_rules ∙ good_rules control.term (one_breaker arities false [] control.term 0 [] ∙ ap breaker (agrees_past _ _ _ b agrees).is))

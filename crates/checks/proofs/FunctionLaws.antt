@@ -6,6 +6,7 @@ use mathlib.Core.Option.{none, some}
 use mathlib.Core.List.{List, [], ◌∷◌, ◌++◌}
 use native.Mathlib.Omega.{arith}
 use native.Mathlib.Numerals.{add-one}
+use Rattle.std.specs.Prelude.{Result, Ok, Err, IsErrAnd}
 use lib.ListN.{length, get_or, set, take, drop, replicate, drop_of_length-le}
 use lib.Seq.{take-suc-set, drop-append_seam}
 use Rattle.lists.specs.Lists.{member}
@@ -17,16 +18,14 @@ use Rattle.term.specs.Shape.{shape, wanted, module_shape}
 use Rattle.term.specs.Fit.{Fit, FitAll}
 use Rattle.term.specs.Module.{parameters_of, arities_of}
 use Rattle.term.specs.Control.{module_arities}
-use Rattle.shape.specs.declared.shape.Reading.{Reading}
-use Rattle.shape.specs.declared.shape.Reading.TheVariants.{Ends, Fails}
-use Rattle.checks.specs.declared.module.Functions.TheVariants.{Count, Fails as NoFunctions}
+use Rattle.rows.specs.declared.terms.BadWord.{BadWord}
 use Rattle.shape.specs.Reading.{onward, Reads}
-use Rattle.checks.specs.Checking.{fail_of, ReadFunctions}
+use Rattle.checks.specs.Checking.{bad_of, ReadFunctions}
 use Rattle.term.proofs.WordLaws.{n_word}
 use Rattle.term.proofs.RowLaws.{drop_head, here, count_within}
 use Rattle.term.proofs.TreeLaws.{length_all, ◌and_all◌, words_all, count_all, all_end}
 use Rattle.term.proofs.ShapeLaws.{shape_terms, shape_misfit, Functions as ShapedFunctions, shaped_module}
-use Rattle.shape.proofs.ReadingLaws.{further_ends}
+use Rattle.shape.proofs.ReadingLaws.{further_ends, passed_on}
 
 -- a spot that no word fits shows where reading has come to
 abbrev no_spot : ℕ
@@ -42,13 +41,13 @@ shape_stops places [] at = refl
 shape_stops places (w ∷ l) at = shape_misfit places [] w no_spot l [] at (no_fit places w)
 
 -- reading well-shaped terms ends where they do
-pub reads_end : (places : ℕ) (l : List ℕ) (at spot times a : ℕ) (r : Reading) (ts : Terms) (rest : List ℕ) → Reads places l at spot times r → r ≡ Ends a → FitAll places ts (replicate times spot) → drop at l ≡ words_of ts ++ rest
+pub reads_end : (places : ℕ) (l : List ℕ) (at spot times a : ℕ) (ts : Terms) (rest : List ℕ) → Reads places l at spot times (Ok a) → FitAll places ts (replicate times spot) → drop at l ≡ words_of ts ++ rest
     → a ≡ at + length (words_of ts)
 unfolding onward
-reads_end places l at spot times a r ts rest h e f row =
+reads_end places l at spot times a ts rest h f row =
     some_injective (
     sym (shape_stops places (drop a l) a)
-    ∙ sym (h.answer [] (no_spot ∷ []) ∙ ap (onward places [] l (no_spot ∷ [])) e)
+    ∙ sym (h.answer [] (no_spot ∷ []))
     ∙ ap (λ (m : List ℕ). shape places [] m (replicate times spot ++ (no_spot ∷ [])) at) row
     ∙ shape_terms places [] ts (replicate times spot) rest (no_spot ∷ []) at f
     ∙ shape_stops places rest (at + length (words_of ts)))
@@ -110,18 +109,18 @@ no_words (t then ts) e = absurd (omega (arith, count_within (t then ts)))
 
 -- one function more
 next_counted : (l counts : List ℕ) (at number : ℕ) (ts done left : Terms) (many : ℕ) → ts ≡ done and_all left → FitAll 0 left (replicate many spot_function) → at ≡ length (words_of done) → number ≡ count done
-    → take number counts ≡ arities_of done → drop at l ≡ words_of left → at < length l → (r : Reading) → Reads 0 l at spot_function 1 r → (a : ℕ) → r ≡ Ends a → number < length counts → (n : ℕ) → n ≡ n_of (get_or l at 0)
+    → take number counts ≡ arities_of done → drop at l ≡ words_of left → at < length l → (a : ℕ) → Reads 0 l at spot_function 1 (Ok a) → number < length counts → (n : ℕ) → n ≡ n_of (get_or l at 0)
     → Counted (set counts number n) a (number + 1) ts
 unfolding FitAll Fit words_of words count ◌and_all◌ parameters_of
-next_counted l counts at number ts done end many is fit at_is number_is noted row lt r h a e room n en =
+next_counted l counts at number ts done end many is fit at_is number_is noted row lt a h room n en =
     let z : ◌≡◌ {A = ℕ} 0 1 = cc (row, drop_head l at lt) in absurd (omega arith)
-next_counted l counts at number ts done (t then vs) zero is fit at_is number_is noted row lt r h a e room n en = absurd fit
-next_counted l counts at number ts done (int x then vs) (suc many) is fit at_is number_is noted row lt r h a e room n en = absurd (no_integer_function x fit.0)
-next_counted l counts at number ts done (node tag m k us then vs) (suc many) is fit at_is number_is noted row lt r h a e room n en =
+next_counted l counts at number ts done (t then vs) zero is fit at_is number_is noted row lt a h room n en = absurd fit
+next_counted l counts at number ts done (int x then vs) (suc many) is fit at_is number_is noted row lt a h room n en = absurd (no_integer_function x fit.0)
+next_counted l counts at number ts done (node tag m k us then vs) (suc many) is fit at_is number_is noted row lt a h room n en =
     let t = node tag m k us in
     let w = (here l at (word tag m k) (words_of us ++ words_of vs) row).word_is in
     let nm : n ≡ m = en ∙ ap n_of w ∙ n_word tag m k fit.0.0.n_fits fit.0.0.k_fits in
-    let stop : a ≡ at + length (words_of (t then end)) = reads_end 0 l at spot_function 1 a r (t then end) (words_of vs) h e (fit.0, tt) (row ∙ words_all (t then end) vs) in
+    let stop : a ≡ at + length (words_of (t then end)) = reads_end 0 l at spot_function 1 a (t then end) (words_of vs) h (fit.0, tt) (row ∙ words_all (t then end) vs) in
     record {
       done = done and_all (t then end);
       left = vs;
@@ -139,8 +138,8 @@ next_counted l counts at number ts done (node tag m k us then vs) (suc many) is 
     }
 
 -- no words are no functions
-pub empty_module : (l counts : List ℕ) → length l ≡ 0 → ReadFunctions l counts (NoFunctions 0)
-unfolding fail_of module_shape shape
+pub empty_module : (l counts : List ℕ) → length l ≡ 0 → ReadFunctions l counts (Err (record { 0 = 0 }))
+unfolding bad_of module_shape shape
 empty_module [] counts e = record { answer = refl; counted = λ m i. let z : ◌≡◌ {A = ℕ} 0 1 = cc in absurd (omega arith) }
 empty_module (w ∷ l) counts e = absurd (omega arith)
 
@@ -157,33 +156,32 @@ module _ (l counts : List ℕ) (at number : ℕ) (s : SoFar l counts at number) 
         let e : c.left ≡ end = no_words c.left (ap length (sym (left_row l counts at number f.terms f.same_words c) ∙ drop_of_length-le l h)) in
         c.noted ∙ ap arities_of (sym (c.is ∙ ap (λ (us : Terms). c.done and_all us) e ∙ all_end c.done)) ∙ ap arities_of (sym f.read_as)
 
-    pub so_far_done : number ≤ length counts → ReadFunctions l counts (Count number)
-    unfolding fail_of
+    pub so_far_done : number ≤ length counts → ReadFunctions l counts (Ok number)
+    unfolding bad_of
     so_far_done few =
         record {
           answer = sym passed;
           counted = λ m e. let i : number ≡ m = cc in (rw i at (all_noted (shaped_module l passed)), omega arith);
         }
 
-  module _ (lt : at < length l) (r : Reading) (h : Reads 0 l at spot_function 1 r) where
-    onward_is : module_shape l ≡ onward 0 (spot_function ∷ []) l [] r
-    onward_is = s.same ∙ begins l at lt ∙ h.answer (spot_function ∷ []) []
+  module _ (lt : at < length l) where
+    onward_is : (r : Result ℕ BadWord) → Reads 0 l at spot_function 1 r → module_shape l ≡ onward 0 (spot_function ∷ []) l [] r
+    onward_is r h = s.same ∙ begins l at lt ∙ h.answer (spot_function ∷ []) []
 
-    pub so_far_fails : (p : ℕ) → r ≡ Fails p → ReadFunctions l counts (NoFunctions p)
-    unfolding fail_of onward
-    so_far_fails p e =
-        record {
-          answer = sym (onward_is ∙ ap (onward 0 (spot_function ∷ []) l []) e);
-          counted = λ m i. let z : ◌≡◌ {A = ℕ} 0 1 = cc in absurd (omega arith);
-        }
+    fails : (bad : BadWord) → Reads 0 l at spot_function 1 (Err bad) → ReadFunctions l counts (Err bad)
+    unfolding bad_of onward
+    fails bad h = record { answer = sym (onward_is (Err bad) h); counted = λ m i. let z : ◌≡◌ {A = ℕ} 0 1 = cc in absurd (omega arith) }
 
-    pub so_far_next : (a : ℕ) → r ≡ Ends a → number < length counts → (n : ℕ) → n ≡ n_of (get_or l at 0) → SoFar l (set counts number n) a (number + 1)
+    pub so_far_fails : (bad : BadWord) → Reads 0 l at spot_function 1 (Err bad) → (r : Result ℕ BadWord) → IsErrAnd r (λ e. e ≡ bad) → ReadFunctions l counts r
+    so_far_fails bad h r p = rw (passed_on r bad p) (fails bad h)
+
+    pub so_far_next : (a : ℕ) → Reads 0 l at spot_function 1 (Ok a) → number < length counts → (n : ℕ) → n ≡ n_of (get_or l at 0) → SoFar l (set counts number n) a (number + 1)
     unfolding onward
-    so_far_next a e room n en =
+    so_far_next a h room n en =
         record {
-          few = omega (arith, s.few, further_ends 0 l at spot_function 1 a r (omega arith) h e);
-          same = onward_is ∙ ap (onward 0 (spot_function ∷ []) l []) e;
+          few = omega (arith, s.few, further_ends 0 l at spot_function 1 a (omega arith) h);
+          same = onward_is (Ok a) h;
           counted = λ ts m f q.
               let c = s.counted ts m f q in
-              next_counted l counts at number ts c.done c.left c.many c.is c.fit c.at_is c.number_is c.noted (left_row l counts at number ts q c) lt r h a e room n en;
+              next_counted l counts at number ts c.done c.left c.many c.is c.fit c.at_is c.number_is c.noted (left_row l counts at number ts q c) lt a h room n en;
         }

@@ -1,15 +1,16 @@
 -- Marks for numbers: what one more mark says, and the rule for one word by the tests of the code.
 use Prim.Native.Nat.{ℕ, zero, suc, ◌≤◌, ◌<◌}
 use mathlib.Core.Path.{◌≡◌, refl, sym, ◌∙◌}
+use mathlib.Core.Logic.{◌⊎◌, inl, inr}
 use mathlib.Core.Bool.{Bool, true, false, not, ◌&&◌, ◌||◌}
 use mathlib.Core.List.{List, [], ◌∷◌}
 use native.Mathlib.Omega.{arith}
 use native.Mathlib.Decide.{ℕ_discrete}
-use lib.Dec.{eqb}
+use lib.Dec.{eqb, ltb}
 use lib.ListN.{length, get_or, set, length-set}
 use lib.Seq.{get_or-set_same, get_or-set_other}
 use Rattle.lists.specs.Lists.{member}
-use Rattle.lists.proofs.Tests.{eqb_of, eqb_same, eqb_apart, not_true, not_false}
+use Rattle.lists.proofs.Tests.{eqb_of, eqb_same, eqb_apart, ltb_over}
 use Rattle.term.specs.Words.{tag_of, n_of, k_of, tag_variable, tag_apply, tag_spawn, tag_let, tag_check}
 use Rattle.term.specs.Table.{table, row_of, k_limit, fits}
 use Rattle.term.specs.Binding.{names, keeps_rule, checks_after}
@@ -48,11 +49,14 @@ module _ (marks : List Bool) (w t : ℕ) (et : t ≡ tag_of w) where
     meet_out h numbers m = rw (← et, eqb_of t tag_check e, ← ev) (mark_out check_numbers marks numbers v h m)
 
 -- the function of a number
-pub no_function : (arities : List ℕ) (k n : ℕ) → length arities ≤ k → false ≡ names arities k n
+no_name : (arities : List ℕ) (k n : ℕ) → length arities ≤ k → false ≡ names arities k n
 unfolding names
-no_function [] k n h = refl
-no_function (a ∷ arities) zero n h = absurd (omega arith)
-no_function (a ∷ arities) (suc k) n h = no_function arities k n (omega arith)
+no_name [] k n h = refl
+no_name (a ∷ arities) zero n h = absurd (omega arith)
+no_name (a ∷ arities) (suc k) n h = no_name arities k n (omega arith)
+
+pub no_function : (arities : List ℕ) (k n : ℕ) → length arities ≤ k → ltb k (length arities) ≡ names arities k n
+no_function arities k n h = ltb_over k (length arities) h ∙ no_name arities k n h
 
 pub some_function : (arities : List ℕ) (k n : ℕ) → k < length arities → eqb (get_or arities k 0) n ≡ names arities k n
 unfolding names
@@ -101,40 +105,43 @@ check_k places spot w f e = rw e at (fits_parts places spot w f).k_below
 
 -- the rule, by the tests of the code
 module _ (w : ℕ) (marks : List Bool) (arities : List ℕ) (unique : Bool) (met : List Bool) (t : ℕ) (et : t ≡ tag_of w) (v : ℕ) (ev : v ≡ k_of w) where
-  pub rules_apply : t ≡ tag_apply → (m : ℕ) → m ≡ n_of w → (r : Bool) → r ≡ names arities v m → Rules w marks arities unique met r
-  rules_apply e m em r er = record { answer = λ places spot scope checks f h g. er ∙ rw (ev, em) (sym (rule_apply arities unique scope checks (tag_of w) (n_of w) (k_of w) (sym et ∙ e))) }
-
-  pub rules_spawn : t ≡ tag_spawn → (m : ℕ) → m ≡ n_of w → (r : Bool) → r ≡ names arities v m → Rules w marks arities unique met r
-  rules_spawn e m em r er = record { answer = λ places spot scope checks f h g. er ∙ rw (ev, em) (sym (rule_spawn arities unique scope checks (tag_of w) (n_of w) (k_of w) (sym et ∙ e))) }
+  pub rules_named : (t ≡ tag_apply) ⊎ (t ≡ tag_spawn) → (m : ℕ) → m ≡ n_of w → (r : Bool) → r ≡ names arities v m → Rules w marks arities unique met r
+  rules_named s m em r er =
+      record {
+        answer = λ places spot scope checks f h g. er ∙ rw (ev, em) (sym (elim s [
+          | inl e ↦ rule_apply arities unique scope checks (tag_of w) (n_of w) (k_of w) (sym et ∙ e)
+          | inr e ↦ rule_spawn arities unique scope checks (tag_of w) (n_of w) (k_of w) (sym et ∙ e)
+        ]));
+      }
 
   module _ (e : t ≡ tag_check) where
-    pub check_out : check_numbers ≤ v → Rules w marks arities unique met false
-    check_out b = record { answer = λ places spot scope checks f h g. absurd (omega (arith, check_k places spot w f (sym et ∙ e))) }
+    pub check_out : check_numbers ≤ v → (r : Bool) → Rules w marks arities unique met r
+    check_out b r = record { answer = λ places spot scope checks f h g. absurd (omega (arith, check_k places spot w f (sym et ∙ e))) }
 
-    pub check_free : not unique ≡ true → Rules w marks arities unique met true
-    check_free u = record { answer = λ places spot scope checks f h g. sym (rule_check arities unique scope checks (tag_of w) (n_of w) (k_of w) (sym et ∙ e) ∙ rw (not_true unique u)) }
+    pub check_free : unique ≡ false → Rules w marks arities unique met (not unique)
+    check_free u = record { answer = λ places spot scope checks f h g. sym (rule_check arities unique scope checks (tag_of w) (n_of w) (k_of w) (sym et ∙ e) ∙ rw u refl) }
 
-    pub check_new : v < check_numbers → not unique ≡ false → Rules w marks arities unique met (not (get_or met v false))
+    pub check_new : v < check_numbers → unique ≡ true → Rules w marks arities unique met (not (get_or met v false))
     check_new b u =
-        record { answer = λ places spot scope checks f h g. sym (rule_check arities unique scope checks (tag_of w) (n_of w) (k_of w) (sym et ∙ e) ∙ rw (not_false unique u, ← ev, g.told v b)) }
+        record { answer = λ places spot scope checks f h g. sym (rule_check arities unique scope checks (tag_of w) (n_of w) (k_of w) (sym et ∙ e) ∙ rw (u, ← ev, g.told v b)) }
 
   module _ (e : t ≡ tag_variable) where
-    pub variable_out : variables ≤ v → Rules w marks arities unique met false
-    variable_out b = record { answer = λ places spot scope checks f h g. absurd (omega (arith, variable_k places spot w f (sym et ∙ e))) }
+    pub variable_out : variables ≤ v → (r : Bool) → Rules w marks arities unique met r
+    variable_out b r = record { answer = λ places spot scope checks f h g. absurd (omega (arith, variable_k places spot w f (sym et ∙ e))) }
 
     pub variable_in : v < variables → Rules w marks arities unique met (get_or marks v false)
     variable_in b = record { answer = λ places spot scope checks f h g. h.told v b ∙ sym (rule_variable arities unique scope checks (tag_of w) (n_of w) (k_of w) (sym et ∙ e) ∙ rw (← ev)) }
 
   module _ (e : t ≡ tag_let) where
-    pub let_out : variables ≤ v → Rules w marks arities unique met false
-    let_out b = record { answer = λ places spot scope checks f h g. absurd (omega (arith, let_k places spot w f (sym et ∙ e))) }
+    pub let_out : variables ≤ v → (r : Bool) → Rules w marks arities unique met r
+    let_out b r = record { answer = λ places spot scope checks f h g. absurd (omega (arith, let_k places spot w f (sym et ∙ e))) }
 
     pub let_in : v < variables → Rules w marks arities unique met (not (get_or marks v false))
     let_in b = record { answer = λ places spot scope checks f h g. sym (rule_let arities unique scope checks (tag_of w) (n_of w) (k_of w) (sym et ∙ e) ∙ rw (← ev, h.told v b)) }
 
-  pub rules_other : ¬ (t ≡ tag_apply) → ¬ (t ≡ tag_spawn) → ¬ (t ≡ tag_check) → ¬ (t ≡ tag_variable) → ¬ (t ≡ tag_let) → Rules w marks arities unique met true
-  rules_other a b c d e =
+  pub rules_other : ¬ ((t ≡ tag_apply) ⊎ (t ≡ tag_spawn)) → ¬ (t ≡ tag_check) → ¬ (t ≡ tag_variable) → ¬ (t ≡ tag_let) → Rules w marks arities unique met true
+  rules_other a c d e =
       record {
         answer = λ places spot scope checks f h g.
-            sym (rule_other arities unique scope checks (tag_of w) (n_of w) (k_of w) (λ i. a (et ∙ i)) (λ i. b (et ∙ i)) (λ i. c (et ∙ i)) (λ i. d (et ∙ i)) (λ i. e (et ∙ i)));
+            sym (rule_other arities unique scope checks (tag_of w) (n_of w) (k_of w) (λ i. a (inl (et ∙ i))) (λ i. a (inr (et ∙ i))) (λ i. c (et ∙ i)) (λ i. d (et ∙ i)) (λ i. e (et ∙ i)));
       }

@@ -6,6 +6,7 @@ use mathlib.Core.Bool.{Bool, true, false}
 use mathlib.Core.List.{List, [], ◌++◌}
 use native.Mathlib.Omega.{arith}
 use native.Mathlib.Numerals.{add-one}
+use Rattle.std.specs.Prelude.{Result, Ok, Err, IsErrAnd, ⊤}
 use lib.Dec.{eqb}
 use lib.ListN.{length, get_or, drop, replicate, drop_of_length-le}
 use Rattle.lists.specs.Lists.{member, up_to}
@@ -16,14 +17,13 @@ use Rattle.term.specs.Tree.{Terms, int, node, end, ◌then◌, words, words_of}
 use Rattle.term.specs.Fit.{Fit, FitAll}
 use Rattle.term.specs.Binding.{Walk, and_then, keeps_all, function_keeps, functions_keep}
 use Rattle.term.specs.Module.{breaker}
-use Rattle.checks.specs.declared.module.Checked.TheVariants.{Good, Bad}
-use Rattle.checks.specs.declared.binding.Gone.{Gone}
-use Rattle.checks.specs.declared.binding.Gone.TheVariants.{Past, Broke}
+use Rattle.rows.specs.declared.terms.BadWord.{BadWord}
 use Rattle.checks.specs.Walking.{Marks, Stands, Keeps, variables, check_numbers}
 use Rattle.checks.specs.Checking.{bad_of, KeepsFunctions}
 use Rattle.term.proofs.WordLaws.{tag_word, n_word}
 use Rattle.term.proofs.RowLaws.{drop_head, here, drop_past}
 use Rattle.term.proofs.ShapeLaws.{fits_parts}
+use Rattle.shape.proofs.ReadingLaws.{passed_on}
 use Rattle.checks.proofs.WalkLaws.{agrees_broke, agrees_past}
 use Rattle.checks.proofs.ControlLaws.{no_marks}
 use Rattle.checks.proofs.FunctionLaws.{no_integer_function, no_words}
@@ -105,7 +105,7 @@ functions_step arities tag n k us ts at checks =
     ap (λ (j : ℕ). and_then (keeps_all arities true (up_to n) us j checks) (λ at' scope checks'. functions_keep arities ts at' checks')) (sym (add-one at))
 
 module _ (l arities : List ℕ) (at : ℕ) (checks : List Bool) (s : Going l arities at checks) where
-  pub going_done : length l ≤ at → KeepsFunctions l arities Good
+  pub going_done : length l ≤ at → KeepsFunctions l arities (Ok tt)
   unfolding bad_of breaker functions_keep
   going_done h =
       record {
@@ -115,32 +115,33 @@ module _ (l arities : List ℕ) (at : ℕ) (checks : List Bool) (s : Going l ari
             sym (ap breaker (c.same ∙ ap (λ (us : Terms). functions_keep arities us at c.numbers) z));
       }
 
-  module _ (lt : at < length l) (n : ℕ) (en : n ≡ n_of (get_or l at 0)) (scope : List Bool) (m : Marks variables scope (up_to n)) (after : List Bool) (g : Gone) (k : Keeps l (at + 1) 1 scope arities true checks after g) where
+  module _ (lt : at < length l) (n : ℕ) (en : n ≡ n_of (get_or l at 0)) (scope : List Bool) (m : Marks variables scope (up_to n)) (after : List Bool) where
     walk : (ts : Terms) (c : Left l arities at checks ts) (f : FunctionHere l at c.left)
         → functions_keep arities ts 0 [] ≡ and_then (keeps_all arities true (up_to f.n) f.children (at + 1) c.numbers) (λ at' scope' checks'. functions_keep arities f.others at' checks')
     walk ts c f = c.same ∙ ap (λ (us : Terms). functions_keep arities us at c.numbers) f.is ∙ functions_step arities f.tag f.n f.k f.children f.others at c.numbers
 
-    pub going_breaks : (p : ℕ) → g ≡ Broke p → KeepsFunctions l arities (Bad p)
+    pub going_breaks : (bad : BadWord) → Keeps l (at + 1) 1 scope arities true checks after (Err bad) → (r : Result ⊤ BadWord) → IsErrAnd r (λ e. e ≡ bad) → KeepsFunctions l arities r
     unfolding bad_of breaker and_then
-    going_breaks p e =
+    going_breaks bad k r p =
+        rw (passed_on r bad p)
         record {
           answer = λ ts j f q.
               let c = s.to_come ts j f q in
               let h = function_here l at c.left c.many c.fit c.row lt in
               let mm : Marks variables scope (up_to h.n) = rw (en ∙ h.n_is) at m in
-              let w = agrees_broke _ _ _ g p (k.answer h.children (up_to h.n) c.numbers h.stands mm c.marks) e in
+              let w = agrees_broke _ _ _ bad (k.answer h.children (up_to h.n) c.numbers h.stands mm c.marks) in
               sym (ap breaker (walk ts c h ∙ ap (λ (x : Walk). and_then x (λ at' scope' checks'. functions_keep arities h.others at' checks')) w));
         }
 
-    pub going_next : (a : ℕ) → g ≡ Past a → Going l arities a after
+    pub going_next : (a : ℕ) → Keeps l (at + 1) 1 scope arities true checks after (Ok a) → Going l arities a after
     unfolding and_then
-    going_next a e =
+    going_next a k =
         record {
           to_come = λ ts j f q.
               let c = s.to_come ts j f q in
               let h = function_here l at c.left c.many c.fit c.row lt in
               let mm : Marks variables scope (up_to h.n) = rw (en ∙ h.n_is) at m in
-              let w = agrees_past _ _ _ g a (k.answer h.children (up_to h.n) c.numbers h.stands mm c.marks) e in
+              let w = agrees_past _ _ _ a (k.answer h.children (up_to h.n) c.numbers h.stands mm c.marks) in
               record {
                 left = h.others;
                 many = h.many;

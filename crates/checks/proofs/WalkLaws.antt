@@ -6,6 +6,7 @@ use mathlib.Core.List.{List, ◌∷◌}
 use native.Mathlib.Omega.{arith}
 use native.Mathlib.Nat.{add-zero}
 use native.Mathlib.Numerals.{add-one}
+use Rattle.std.specs.Prelude.{Result, Ok, Err, IsErrAnd}
 use lib.Dec.{eqb}
 use lib.ListN.{length, get_or}
 use Rattle.lists.proofs.Tests.{eqb_of, eqb_apart, not_true, not_false}
@@ -14,21 +15,19 @@ use Rattle.term.specs.Table.{arity, table, row_of, child_count}
 use Rattle.term.specs.Tree.{Term, Terms, node, end, ◌then◌, words_of, count}
 use Rattle.term.specs.Binding.{Walk, breaks, passes, and_then, binds, binds_all, keeps_rule, checks_after, keeps, keeps_all, keeps_let, keeps_clause}
 use Rattle.rows.specs.Kinds.{ChildCount}
-use Rattle.checks.specs.declared.binding.Gone.{Gone}
-use Rattle.checks.specs.declared.binding.Gone.TheVariants.{Past, Broke}
+use Rattle.rows.specs.declared.terms.BadWord.{BadWord}
 use Rattle.checks.specs.Walking.{Marks, Stands, Agrees, Onward, Binds, Rules, Keeps, KeepsBoth, variables, check_numbers}
 use Rattle.term.proofs.TreeLaws.{length_all, ◌and_all◌}
 use Rattle.term.proofs.ShapeLaws.{fits_parts}
+use Rattle.shape.proofs.ReadingLaws.{passed_on}
 use Rattle.checks.proofs.StandLaws.{NodeHere, stands_none, stands_first, stands_second, stands_integer, stands_node}
 use Rattle.checks.proofs.BindLaws.{then_then, onward_from, agrees_with, none_past, none_short, integer_stop, node_stop, node_next}
 
 -- a walk that broke, and one that passed
-pub agrees_broke : (stop : ℕ) (left : List ℕ → List ℕ → Type 0) (w : Walk) (r : Gone) (p : ℕ) → Agrees stop left w r → r ≡ Broke p → w ≡ breaks p
+pub agrees_broke : (stop : ℕ) (left : List ℕ → List ℕ → Type 0) (w : Walk) (bad : BadWord) → Agrees stop left w (Err bad) → w ≡ breaks bad.0
 unfolding Agrees
-agrees_broke stop left (breaks q) (Broke p') p a e = ap breaks (a ∙ cc)
-agrees_broke stop left (breaks q) (Past b) p a e = absurd a
-agrees_broke stop left (passes b scope checks) (Broke q) p a e = absurd a
-agrees_broke stop left (passes b scope checks) (Past c) p a e = let z : ◌≡◌ {A = ℕ} 0 1 = cc in absurd (omega arith)
+agrees_broke stop left (breaks q) bad a = ap breaks a
+agrees_broke stop left (passes b scope checks) bad a = absurd a
 
 pub record Passed (stop : ℕ) (left : List ℕ → List ℕ → Type 0) (w : Walk) (a : ℕ) : Type 0 where
   pub scope : List ℕ
@@ -37,14 +36,10 @@ pub record Passed (stop : ℕ) (left : List ℕ → List ℕ → Type 0) (w : Wa
   pub stops : a ≡ stop
   pub what_left : left scope checks
 
-pub agrees_past : (stop : ℕ) (left : List ℕ → List ℕ → Type 0) (w : Walk) (r : Gone) (a : ℕ) → Agrees stop left w r → r ≡ Past a → Passed stop left w a
+pub agrees_past : (stop : ℕ) (left : List ℕ → List ℕ → Type 0) (w : Walk) (a : ℕ) → Agrees stop left w (Ok a) → Passed stop left w a
 unfolding Agrees
-agrees_past stop left (breaks q) (Broke p') a g e = let z : ◌≡◌ {A = ℕ} 0 1 = cc in absurd (omega arith)
-agrees_past stop left (breaks q) (Past b) a g e = absurd g
-agrees_past stop left (passes b scope checks) (Broke q) a g e = absurd g
-agrees_past stop left (passes b scope checks) (Past c) a g e =
-    let i : c ≡ a = cc in
-    record { scope = scope; checks = checks; is = ap (λ (j : ℕ). passes j scope checks) (g.0 ∙ i); stops = sym i ∙ g.1; what_left = g.2 }
+agrees_past stop left (breaks q) a g = absurd g
+agrees_past stop left (passes b scope checks) a g = record { scope = scope; checks = checks; is = ap (λ (j : ℕ). passes j scope checks) g.0; stops = g.1; what_left = g.2 }
 
 module _ (arities : List ℕ) (unique : Bool) where
   pub keeps_all_lem : (ts us : Terms) (scope : List ℕ) (at : ℕ) (checks : List ℕ)
@@ -187,16 +182,20 @@ parts l at owed m ts h p =
           );
     }
 
-agrees_breaks : (stop : ℕ) (left : List ℕ → List ℕ → Type 0) (w : Walk) (r : Gone) (p : ℕ) → w ≡ breaks p → r ≡ Broke p → Agrees stop left w r
+agrees_breaks : (stop : ℕ) (left : List ℕ → List ℕ → Type 0) (w : Walk) (bad : BadWord) → w ≡ breaks bad.0 → Agrees stop left w (Err bad)
 unfolding Agrees
-agrees_breaks stop left w r p e i = rw (e, i) refl
+agrees_breaks stop left w bad e = rw e refl
 
-pub onward_past : (b a : ℕ) (r : Gone) → Onward b r → r ≡ Past a → b ≤ a
+pub onward_past : (b a : ℕ) → Onward b (Ok a) → b ≤ a
 unfolding Onward
-onward_past b a r o e = rw e at o
+onward_past b a o = o
+
+-- a walk that passes ends no earlier than it begins
+pub keeps_onward : {l : List ℕ} {at owed : ℕ} {marks : List Bool} {arities : List ℕ} {unique : Bool} {before after : List Bool} {a : ℕ} → Keeps l at owed marks arities unique before after (Ok a) → at ≤ a
+keeps_onward k = onward_past _ _ k.onward
 
 module _ (l : List ℕ) (at owed : ℕ) (marks : List Bool) (arities : List ℕ) (unique : Bool) (before : List Bool) where
-  pub keep_none : owed ≡ 0 → Keeps l at owed marks arities unique before before (Past at)
+  pub keep_none : owed ≡ 0 → Keeps l at owed marks arities unique before before (Ok at)
   unfolding Onward Agrees keeps_all words_of
   keep_none z =
       record {
@@ -205,17 +204,17 @@ module _ (l : List ℕ) (at owed : ℕ) (marks : List Bool) (arities : List ℕ)
       }
 
   module _ (ne : ¬ (owed ≡ 0)) where
-    pub keep_past : length l ≤ at → Keeps l at owed marks arities unique before before (Broke at)
+    pub keep_past : length l ≤ at → Keeps l at owed marks arities unique before before (Err (record { 0 = at }))
     unfolding Onward
     keep_past h = record { answer = λ ts scope checks s m g. absurd (none_past l at owed ts ne h s); onward = tt }
 
     module _ (lt : at < length l) where
-      pub keep_short : length l - at < owed → Keeps l at owed marks arities unique before before (Broke at)
+      pub keep_short : length l - at < owed → Keeps l at owed marks arities unique before before (Err (record { 0 = at }))
       unfolding Onward
       keep_short h = record { answer = λ ts scope checks s m g. absurd (none_short l at owed ts h s); onward = tt }
 
       module _ (t : ℕ) (et : t ≡ tag_of (get_or l at 0)) where
-        pub keep_integer : t ≡ tag_integer → (after : List Bool) (r : Gone) → Keeps l (at + 2) (owed - 1) marks arities unique before after r → Keeps l at owed marks arities unique before after r
+        pub keep_integer : t ≡ tag_integer → (after : List Bool) (r : Result ℕ BadWord) → Keeps l (at + 2) (owed - 1) marks arities unique before after r → Keeps l at owed marks arities unique before after r
         unfolding keeps_all and_then
         keep_integer e after r b =
             record {
@@ -234,7 +233,7 @@ module _ (l : List ℕ) (at owed : ℕ) (marks : List Bool) (arities : List ℕ)
           rule_is : (ts : Terms) (h : NodeHere l at owed ts) (scope checks : List ℕ) → Marks variables marks scope → Marks check_numbers before checks → v ≡ keeps_rule arities unique scope checks h.tag h.n h.k
           rule_is ts h scope checks m g = rw (← h.tag_is, ← h.n_is, ← h.k_is) (rules.answer h.places h.spot scope checks h.fit m g)
 
-          pub keep_broken : not v ≡ true → Keeps l at owed marks arities unique before before (Broke at)
+          pub keep_broken : not v ≡ true → Keeps l at owed marks arities unique before before (Err (record { 0 = at }))
           unfolding Onward Agrees
           keep_broken f =
               record {
@@ -254,7 +253,7 @@ module _ (l : List ℕ) (at owed : ℕ) (marks : List Bool) (arities : List ℕ)
 
             pub keep_plain_lem : ¬ (t ≡ tag_let) → ¬ (t ≡ tag_clause) → (met : List Bool)
                 → ((numbers : List ℕ) → Marks check_numbers before numbers → Marks check_numbers met (checks_after (tag_of (get_or l at 0)) (k_of (get_or l at 0)) numbers))
-                → (c : ℕ) → ChildCount (get_or l at 0) c → (after : List Bool) (r : Gone) → Keeps l (at + 1) (owed - 1 + c) marks arities unique met after r → Keeps l at owed marks arities unique before after r
+                → (c : ℕ) → ChildCount (get_or l at 0) c → (after : List Bool) (r : Result ℕ BadWord) → Keeps l (at + 1) (owed - 1 + c) marks arities unique met after r → Keeps l at owed marks arities unique before after r
             keep_plain_lem dl dc met hm c hc after r b =
                 record {
                   answer = λ ts scope checks s m g.
@@ -275,7 +274,7 @@ module _ (l : List ℕ) (at owed : ℕ) (marks : List Bool) (arities : List ℕ)
             clause_next h c scope at' scope' checks' = and_then (keeps_all arities unique scope' c.tail at' checks') (λ at'' scope'' checks''. keeps_all arities unique scope h.others at'' checks'')
 
             -- a let: its bound part, then its body in the inner scope
-            module _ (e : t ≡ tag_let) (mid : List Bool) (first : Gone) (hf : Keeps l (at + 1) 1 marks arities unique before mid first) where
+            module _ (e : t ≡ tag_let) (mid : List Bool) where
               let_walk : (ts : Terms) (h : NodeHere l at owed ts) (c : Split h.children 1) (scope checks : List ℕ) → Marks variables marks scope → Marks check_numbers before checks
                   → keeps_all arities unique scope ts at checks ≡ and_then (keeps_all arities unique scope (c.head then end) (at + 1) checks) (let_next h c scope)
               unfolding let_next
@@ -283,37 +282,37 @@ module _ (l : List ℕ) (at owed : ℕ) (marks : List Bool) (arities : List ℕ)
                   ap (λ (us : Terms). keeps_all arities unique scope us at checks) h.is
                   ∙ keeps_let_lem arities unique h.tag h.n h.k h.children h.others scope at checks (rule_kept ts h scope checks m g) c.head c.tail c.is (sym h.tag_is ∙ sym et ∙ e)
 
-              pub let_broke : (p : ℕ) → first ≡ Broke p → Keeps l at owed marks arities unique before mid first
+              pub let_broke : (bad : BadWord) → Keeps l (at + 1) 1 marks arities unique before mid (Err bad) → Keeps l at owed marks arities unique before mid (Err bad)
               unfolding and_then row_of table arity child_count
-              let_broke p ep =
+              let_broke bad hf =
                   record {
                     answer = λ ts scope checks s m g.
                         let h = node_at ts s in
                         let c = fixed_children tag_let 1 refl refl (λ n. refl) l at owed ts h (sym et ∙ e) in
                         let q = parts l at owed 1 ts h c in
-                        let w = agrees_broke _ _ _ first p (hf.answer (c.head then end) scope checks q.first m g) ep in
-                        agrees_breaks _ _ _ first p (let_walk ts h c scope checks m g ∙ ap (λ (x : Walk). and_then x (let_next h c scope)) w) ep;
-                    onward = onward_from at (at + 1) first (omega arith) hf.onward;
+                        let w = agrees_broke _ _ _ bad (hf.answer (c.head then end) scope checks q.first m g) in
+                        agrees_breaks _ _ _ bad (let_walk ts h c scope checks m g ∙ ap (λ (x : Walk). and_then x (let_next h c scope)) w);
+                    onward = onward_from at (at + 1) (Err bad) (omega arith) hf.onward;
                   }
 
-              pub let_done : (a : ℕ) → first ≡ Past a → (k : ℕ) → k ≡ k_of (get_or l at 0) → (inner : List Bool) → ((scope : List ℕ) → Marks variables marks scope → Marks variables inner (k ∷ scope))
-                  → (after : List Bool) (r : Gone) → KeepsBoth l a 1 (owed - 1) inner marks arities unique mid after r → Keeps l at owed marks arities unique before after r
+              pub let_done : (a : ℕ) → Keeps l (at + 1) 1 marks arities unique before mid (Ok a) → (k : ℕ) → k ≡ k_of (get_or l at 0) → (inner : List Bool) → ((scope : List ℕ) → Marks variables marks scope → Marks variables inner (k ∷ scope))
+                  → (after : List Bool) (r : Result ℕ BadWord) → KeepsBoth l a 1 (owed - 1) inner marks arities unique mid after r → Keeps l at owed marks arities unique before after r
               unfolding and_then let_next row_of table arity child_count
-              let_done a ea k ek inner hi after r b =
+              let_done a hf k ek inner hi after r b =
                   record {
                     answer = λ ts scope checks s m g.
                         let h = node_at ts s in
                         let c = fixed_children tag_let 1 refl refl (λ n. refl) l at owed ts h (sym et ∙ e) in
                         let q = parts l at owed 1 ts h c in
-                        let w = agrees_past _ _ _ first a (hf.answer (c.head then end) scope checks q.first m g) ea in
+                        let w = agrees_past _ _ _ a (hf.answer (c.head then end) scope checks q.first m g) in
                         let kk : k ≡ h.k = ek ∙ h.k_is in
                         agrees_with _ _ _ _ _ r (omega (arith, q.stop, w.stops)) (let_walk ts h c scope checks m g ∙ ap (λ (x : Walk). and_then x (let_next h c scope)) w.is)
                         (b.answer c.tail h.others (h.k ∷ scope) scope w.checks (rw (← w.stops) at q.second) (rw (← w.stops) at q.third) (rw kk at (hi scope m)) m w.what_left);
-                    onward = onward_from at a r (omega (arith, onward_past (at + 1) a first hf.onward ea)) b.onward;
+                    onward = onward_from at a r (omega (arith, onward_past (at + 1) a hf.onward)) b.onward;
                   }
 
             -- a clause: its pattern, then guard and body in the inner scope
-            module _ (dl : ¬ (t ≡ tag_let)) (e : t ≡ tag_clause) (inner : List Bool) (first : Gone) (hf : Binds l (at + 1) 1 marks inner first) where
+            module _ (dl : ¬ (t ≡ tag_let)) (e : t ≡ tag_clause) (inner : List Bool) where
               clause_walk : (ts : Terms) (h : NodeHere l at owed ts) (c : Split h.children 2) (scope checks : List ℕ) → Marks variables marks scope → Marks check_numbers before checks
                   → keeps_all arities unique scope ts at checks ≡ and_then (binds_all scope (c.head then end) (at + 1) checks) (clause_next h c scope)
               unfolding clause_next
@@ -322,52 +321,56 @@ module _ (l : List ℕ) (at owed : ℕ) (marks : List Bool) (arities : List ℕ)
                   ∙ keeps_clause_lem arities unique h.tag h.n h.k h.children h.others scope at checks (rule_kept ts h scope checks m g) c.head c.tail c.is (λ i. dl (et ∙ h.tag_is ∙ i))
                   (sym h.tag_is ∙ sym et ∙ e)
 
-              pub clause_broke : (p : ℕ) → first ≡ Broke p → Keeps l at owed marks arities unique before before first
+              pub clause_broke : (bad : BadWord) → Binds l (at + 1) 1 marks inner (Err bad) → Keeps l at owed marks arities unique before before (Err bad)
               unfolding and_then row_of table arity child_count
-              clause_broke p ep =
+              clause_broke bad hf =
                   record {
                     answer = λ ts scope checks s m g.
                         let h = node_at ts s in
                         let c = fixed_children tag_clause 2 refl refl (λ n. refl) l at owed ts h (sym et ∙ e) in
                         let q = parts l at owed 2 ts h c in
-                        let w = agrees_broke _ _ _ first p (hf.answer (c.head then end) scope checks q.first m) ep in
-                        agrees_breaks _ _ _ first p (clause_walk ts h c scope checks m g ∙ ap (λ (x : Walk). and_then x (clause_next h c scope)) w) ep;
-                    onward = onward_from at (at + 1) first (omega arith) hf.onward;
+                        let w = agrees_broke _ _ _ bad (hf.answer (c.head then end) scope checks q.first m) in
+                        agrees_breaks _ _ _ bad (clause_walk ts h c scope checks m g ∙ ap (λ (x : Walk). and_then x (clause_next h c scope)) w);
+                    onward = onward_from at (at + 1) (Err bad) (omega arith) hf.onward;
                   }
 
-              pub clause_done : (a : ℕ) → first ≡ Past a → (after : List Bool) (r : Gone) → KeepsBoth l a 2 (owed - 1) inner marks arities unique before after r → Keeps l at owed marks arities unique before after r
+              pub clause_done : (a : ℕ) → Binds l (at + 1) 1 marks inner (Ok a) → (after : List Bool) (r : Result ℕ BadWord) → KeepsBoth l a 2 (owed - 1) inner marks arities unique before after r → Keeps l at owed marks arities unique before after r
               unfolding and_then clause_next row_of table arity child_count
-              clause_done a ea after r b =
+              clause_done a hf after r b =
                   record {
                     answer = λ ts scope checks s m g.
                         let h = node_at ts s in
                         let c = fixed_children tag_clause 2 refl refl (λ n. refl) l at owed ts h (sym et ∙ e) in
                         let q = parts l at owed 2 ts h c in
-                        let w = agrees_past _ _ _ first a (hf.answer (c.head then end) scope checks q.first m) ea in
+                        let w = agrees_past _ _ _ a (hf.answer (c.head then end) scope checks q.first m) in
                         agrees_with _ _ _ _ _ r (omega (arith, q.stop, w.stops)) (clause_walk ts h c scope checks m g ∙ ap (λ (x : Walk). and_then x (clause_next h c scope)) w.is)
                         (b.answer c.tail h.others w.scope scope w.checks (rw (← w.stops) at q.second) (rw (← w.stops) at q.third) w.what_left.0 m (rw w.what_left.1 g));
-                    onward = onward_from at a r (omega (arith, onward_past (at + 1) a first hf.onward ea)) b.onward;
+                    onward = onward_from at a r (omega (arith, onward_past (at + 1) a hf.onward)) b.onward;
                   }
 
 -- two walks one after another
-module _ (l : List ℕ) (at first second : ℕ) (inner outer : List Bool) (arities : List ℕ) (unique : Bool) (before mid : List Bool) (one : Gone) (h : Keeps l at first inner arities unique before mid one) where
-  pub both_broke : (p : ℕ) → one ≡ Broke p → KeepsBoth l at first second inner outer arities unique before mid one
+module _ (l : List ℕ) (at first second : ℕ) (inner outer : List Bool) (arities : List ℕ) (unique : Bool) (before mid : List Bool) where
+  pub both_broke : (bad : BadWord) → Keeps l at first inner arities unique before mid (Err bad) → (r : Result ℕ BadWord) → IsErrAnd r (λ e. e ≡ bad) → KeepsBoth l at first second inner outer arities unique before mid r
   unfolding and_then
-  both_broke p ep =
+  both_broke bad h r p =
+      let broke : KeepsBoth l at first second inner outer arities unique before mid (Err bad) =
       record {
         answer = λ ts us scope scope' checks s s' m m' g.
-            let w = agrees_broke _ _ _ one p (h.answer ts scope checks s m g) ep in
-            agrees_breaks _ _ _ one p (ap (λ (x : Walk). and_then x (λ at' scope'' checks'. keeps_all arities unique scope' us at' checks')) w) ep;
+            let w = agrees_broke _ _ _ bad (h.answer ts scope checks s m g) in
+            agrees_breaks _ _ _ bad (ap (λ (x : Walk). and_then x (λ at' scope'' checks'. keeps_all arities unique scope' us at' checks')) w);
         onward = h.onward;
       }
+      in
+      rw (passed_on r bad p) broke
 
-  pub both_done : (a : ℕ) → one ≡ Past a → (after : List Bool) (r : Gone) → Keeps l a second outer arities unique mid after r → KeepsBoth l at first second inner outer arities unique before after r
+  pub both_done : (a : ℕ) → Keeps l at first inner arities unique before mid (Ok a) → (after : List Bool) (r : Result ℕ BadWord) → Keeps l a second outer arities unique mid after r
+      → KeepsBoth l at first second inner outer arities unique before after r
   unfolding and_then
-  both_done a ea after r b =
+  both_done a h after r b =
       record {
         answer = λ ts us scope scope' checks s s' m m' g.
-            let w = agrees_past _ _ _ one a (h.answer ts scope checks s m g) ea in
+            let w = agrees_past _ _ _ a (h.answer ts scope checks s m g) in
             agrees_with _ _ _ _ _ r (omega (arith, w.stops)) (ap (λ (x : Walk). and_then x (λ at' scope'' checks'. keeps_all arities unique scope' us at' checks')) w.is)
             (b.answer us scope' w.checks (rw (← w.stops) at s') m' w.what_left);
-        onward = onward_from at a r (onward_past at a one h.onward ea) b.onward;
+        onward = onward_from at a r (onward_past at a h.onward) b.onward;
       }

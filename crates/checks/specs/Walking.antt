@@ -1,11 +1,10 @@
 -- What the code's walks for the rules promise.
-use Rattle.std.specs.Prelude.{ℕ, ◌+◌, ◌≤◌, ◌<◌, ◌≡◌, ◌⊎◌, Bool, true, false, List, ◌++◌, length, drop, get_or}
+use Rattle.std.specs.Prelude.{ℕ, ◌+◌, ◌≤◌, ◌<◌, ◌≡◌, ◌⊎◌, Bool, true, false, List, ◌++◌, length, drop, get_or, Option, MatchOption, Result, Ok, Err}
 use Rattle.lists.specs.Lists.{member}
-use Rattle.checks.specs.declared.binding.Gone.{Gone}
-use Rattle.checks.specs.declared.binding.Gone.TheVariants.{Past, Broke}
+use Rattle.rows.specs.declared.terms.BadWord.{BadWord}
+use Rattle.rows.specs.declared.terms.Run.{Run}
+use Rattle.rows.specs.declared.terms.Run.TheVariants.{Ends, Turns}
 use Rattle.checks.specs.declared.binding.Light.{Light}
-use Rattle.checks.specs.declared.binding.Plain.{Plain}
-use Rattle.checks.specs.declared.binding.Plain.TheVariants as plain
 use Rattle.term.specs.Words.{tag_of, n_of, k_of, tag_atom, tag_integer, tag_call, tag_let, tag_clause}
 use Rattle.term.specs.Table.{fits}
 use Rattle.term.specs.Tree.{Terms, words_of, count}
@@ -34,18 +33,18 @@ pub record Stands (l : List ℕ) (at owed : ℕ) (ts : Terms) : Type 0 where
   pub row : drop at l ≡ words_of ts ++ rest
 
 -- a walk of the code says what a walk of the definitions does; where both pass, they stop there, and what is left is as said
-unfoldable pub Agrees : (stop : ℕ) → (List ℕ → List ℕ → Type 0) → Walk → Gone → Type 0
-Agrees stop left (breaks p) (Broke q) = p ≡ q
-Agrees stop left (breaks p) (Past b) = ⊥
-Agrees stop left (passes a scope checks) (Broke q) = ⊥
-Agrees stop left (passes a scope checks) (Past b) = (a ≡ b) × (b ≡ stop) × left scope checks
+unfoldable pub Agrees : (stop : ℕ) → (List ℕ → List ℕ → Type 0) → Walk → Result ℕ BadWord → Type 0
+Agrees stop left (breaks p) (Err bad) = p ≡ bad.0
+Agrees stop left (breaks p) (Ok b) = ⊥
+Agrees stop left (passes a scope checks) (Err bad) = ⊥
+Agrees stop left (passes a scope checks) (Ok b) = (a ≡ b) × (b ≡ stop) × left scope checks
 
-unfoldable pub Onward : ℕ → Gone → Type 0
-Onward at (Past b) = at ≤ b
-Onward at (Broke q) = Unit {0}
+unfoldable pub Onward : ℕ → Result ℕ BadWord → Type 0
+Onward at (Ok b) = at ≤ b
+Onward at (Err bad) = Unit {0}
 
 -- the variables of patterns come into a scope
-pub record Binds (l : List ℕ) (at owed : ℕ) (before after : List Bool) (r : Gone) : Type 0 where
+pub record Binds (l : List ℕ) (at owed : ℕ) (before after : List Bool) (r : Result ℕ BadWord) : Type 0 where
   pub answer : (ts : Terms) (scope checks : List ℕ) → Stands l at owed ts → Marks variables before scope
       → Agrees (at + length (words_of ts)) (λ scope' checks'. Marks variables after scope' × (checks' ≡ checks)) (binds_all scope ts at checks) r
   pub onward : Onward at r
@@ -55,23 +54,27 @@ pub record Rules (w : ℕ) (marks : List Bool) (arities : List ℕ) (unique : Bo
   pub answer : (places spot : ℕ) (scope checks : List ℕ) → fits places spot w ≡ true → Marks variables marks scope → Marks check_numbers met checks
       → r ≡ keeps_rule arities unique scope checks (tag_of w) (n_of w) (k_of w)
 
--- a word that has no rule and opens no scope: an integer takes two words, a tag from atom to call one word with n terms below it; for any
--- other word `words` is 0
-pub record LightWord (w : ℕ) (r : Light) : Type 0 where
-  pub few : r.words ≤ 2
-  pub few_below : r.below ≤ 256
-  pub integer : tag_of w ≡ tag_integer → (r.words ≡ 2) × (r.below ≡ 0)
-  pub plain : ¬ (tag_of w ≡ tag_integer) → 0 < r.words → (tag_atom ≤ tag_of w) × (tag_of w ≤ tag_call) × (r.words ≡ 1) × (r.below ≡ n_of w)
+-- a word that has no rule and opens no scope: an integer takes two words, a tag from atom to call one word with n terms below it
+pub record IsLight (w : ℕ) (g : Light) : Type 0 where
+  pub some : 0 < g.words
+  pub few : g.words ≤ 2
+  pub few_below : g.below ≤ 256
+  pub integer : tag_of w ≡ tag_integer → (g.words ≡ 2) × (g.below ≡ 0)
+  pub plain : ¬ (tag_of w ≡ tag_integer) → (tag_atom ≤ tag_of w) × (tag_of w ≤ tag_call) × (g.words ≡ 1) × (g.below ≡ n_of w)
+
+-- what is told to be light is so; an integer is always told
+abbrev pub LightWord : (w : ℕ) → Option Light → Type 0
+LightWord w r = MatchOption r (¬ (tag_of w ≡ tag_integer)) (IsLight w)
 
 -- terms outside patterns, all in one scope
-pub record Keeps (l : List ℕ) (at owed : ℕ) (marks : List Bool) (arities : List ℕ) (unique : Bool) (before after : List Bool) (r : Gone) : Type 0 where
+pub record Keeps (l : List ℕ) (at owed : ℕ) (marks : List Bool) (arities : List ℕ) (unique : Bool) (before after : List Bool) (r : Result ℕ BadWord) : Type 0 where
   pub answer : (ts : Terms) (scope checks : List ℕ) → Stands l at owed ts → Marks variables marks scope → Marks check_numbers before checks
       → Agrees (at + length (words_of ts)) (λ scope' checks'. Marks check_numbers after checks') (keeps_all arities unique scope ts at checks) r
   pub onward : Onward at r
 
 -- a walk has come to a, where so many terms are still to come: what answers for those answers for all
 pub record Gets (l : List ℕ) (at owed : ℕ) (marks : List Bool) (arities : List ℕ) (unique : Bool) (before : List Bool) (a left : ℕ) (met : List Bool) : Type 0 where
-  pub goes : (after : List Bool) (r : Gone) → Keeps l a left marks arities unique met after r → Keeps l at owed marks arities unique before after r
+  pub goes : (after : List Bool) (r : Result ℕ BadWord) → Keeps l a left marks arities unique met after r → Keeps l at owed marks arities unique before after r
   pub no_less : at ≤ a
 
 -- it has come to a let or a clause, which keeps its rule
@@ -83,20 +86,13 @@ pub record Opened (l : List ℕ) (at owed : ℕ) (marks : List Bool) (arities : 
   pub opens : (tag_of (get_or l a 0) ≡ tag_let) ⊎ (tag_of (get_or l a 0) ≡ tag_clause)
 
 -- terms outside patterns, as far as words open no scope
-unfoldable pub KeepsPlain : (l : List ℕ) (at owed : ℕ) (marks : List Bool) (arities : List ℕ) (unique : Bool) (before after : List Bool) → Plain → Type 0
-KeepsPlain l at owed marks arities unique before after (plain.Past a) = Keeps l at owed marks arities unique before after (Past a)
-KeepsPlain l at owed marks arities unique before after (plain.Broke p) = Keeps l at owed marks arities unique before after (Broke p)
-KeepsPlain l at owed marks arities unique before after (plain.Opens a left) = Opened l at owed marks arities unique before a left after
-
--- so many terms from a position on, then so many, and whether numbers of checks have to differ: as asked for, and as kept
-pub record InTurn (at first second : ℕ) (unique : Bool) (at' first' second' : ℕ) (unique' : Bool) : Type 0 where
-  pub at_is : at' ≡ at
-  pub first_is : first' ≡ first
-  pub second_is : second' ≡ second
-  pub unique_is : unique' ≡ unique
+unfoldable pub KeepsPlain : (l : List ℕ) (at owed : ℕ) (marks : List Bool) (arities : List ℕ) (unique : Bool) (before after : List Bool) → Result Run BadWord → Type 0
+KeepsPlain l at owed marks arities unique before after (Ok (Ends a)) = Keeps l at owed marks arities unique before after (Ok a)
+KeepsPlain l at owed marks arities unique before after (Ok (Turns turn)) = Opened l at owed marks arities unique before turn.at turn.owed after
+KeepsPlain l at owed marks arities unique before after (Err bad) = Keeps l at owed marks arities unique before after (Err bad)
 
 -- terms in one scope, then terms in another
-pub record KeepsBoth (l : List ℕ) (at first second : ℕ) (inner outer : List Bool) (arities : List ℕ) (unique : Bool) (before after : List Bool) (r : Gone) : Type 0 where
+pub record KeepsBoth (l : List ℕ) (at first second : ℕ) (inner outer : List Bool) (arities : List ℕ) (unique : Bool) (before after : List Bool) (r : Result ℕ BadWord) : Type 0 where
   pub answer : (ts us : Terms) (scope scope' checks : List ℕ) → Stands l at first ts → Stands l (at + length (words_of ts)) second us → Marks variables inner scope → Marks variables outer scope' → Marks check_numbers before checks
       → Agrees (at + length (words_of ts) + length (words_of us)) (λ scope'' checks''. Marks check_numbers after checks'')
       (and_then (keeps_all arities unique scope ts at checks) (λ at' scope'' checks'. keeps_all arities unique scope' us at' checks')) r

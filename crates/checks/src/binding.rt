@@ -2,22 +2,14 @@
 ghost use Rattle.std.specs.Prelude.{◌≡◌, Bool, ◌||◌, List, ◌∷◌, ℕ, eqb};
 ghost use Rattle.term.specs.Words.{tag_of, k_of, tag_let, tag_clause};
 ghost use Rattle.term.specs.Binding.{names, checks_after};
-ghost use Rattle.checks.specs.Walking.{Marks, Binds, Rules, Keeps, KeepsPlain, InTurn, KeepsBoth, LightWord, variables, check_numbers};
+ghost use Rattle.checks.specs.Walking.{Marks, Binds, Rules, Keeps, KeepsPlain, KeepsBoth, LightWord, variables, check_numbers};
 
 use rows::tables::children;
-use rows::terms::Ahead;
+use rows::terms::{Ahead, BadWord, Run, Runs};
 use rows::words::{
     APPLY, ATOM, CALL, CHECK, CHECK_NUMBERS, CLAUSE, INTEGER, LET, SPAWN, VARIABLE, VARIABLES, k,
     n, tag,
 };
-use shape::shape::between;
-
-// Where the words that were gone through end, or the word that breaks a rule.
-#[derive(Clone, Copy)]
-pub enum Gone {
-    Past(usize),
-    Broke(usize),
-}
 
 // The scope with one more variable.
 pub fn with(scope: &[bool; VARIABLES], v: usize) -> [bool; VARIABLES]
@@ -30,46 +22,41 @@ pub fn with(scope: &[bool; VARIABLES], v: usize) -> [bool; VARIABLES]
     inner
 }
 
-// The variables of so many patterns come into scope, each of them new.
-pub fn bind(row: &[u32], at: usize, owed: usize, scope: &mut [bool; VARIABLES]) -> Gone
+// The variables of so many patterns come into scope, each of them new; where the patterns end.
+pub fn bind(
+    row: &[u32],
+    at: usize,
+    owed: usize,
+    scope: &mut [bool; VARIABLES],
+) -> Result<usize, BadWord>
     ensures { Binds row.now at owed scope.old scope.new result }
 {
     if owed == 0 {
-        return Gone::Past(at);
+        return Ok(at);
     }
-    if row.len() <= at {
-        return Gone::Broke(at);
-    }
-    if row.len() - at < owed {
-        return Gone::Broke(at);
+    if row.len() <= at || row.len() - at < owed {
+        return Err(BadWord(at));
     }
     let w = row[at];
-    let t = tag(w);
-    if t == INTEGER {
-        return bind(row, at + 2, owed - 1, scope);
+    match tag(w) {
+        INTEGER => bind(row, at + 2, owed - 1, scope),
+        VARIABLE => {
+            let v = k(w) as usize;
+            if VARIABLES <= v || scope[v] {
+                return Err(BadWord(at));
+            }
+            scope[v] = true;
+            bind(row, at + 1, owed - 1, scope)
+        }
+        _ => bind(row, at + 1, owed - 1 + children(w), scope),
     }
-    if t != VARIABLE {
-        return bind(row, at + 1, owed - 1 + children(w), scope);
-    }
-    let v = k(w) as usize;
-    if VARIABLES <= v {
-        return Gone::Broke(at);
-    }
-    if scope[v] {
-        return Gone::Broke(at);
-    }
-    scope[v] = true;
-    bind(row, at + 1, owed - 1, scope)
 }
 
 // Whether a function of this number has so many parameters.
 pub fn named(arities: &[u32], function: usize, count: u32) -> bool
     ensures { result ≡ names arities.now function count }
 {
-    if arities.len() <= function {
-        return false;
-    }
-    arities[function] == count
+    function < arities.len() && arities[function] == count
 }
 
 // Whether a word keeps its rule.
@@ -82,36 +69,14 @@ pub fn keeps_rule(
 ) -> bool
     ensures { Rules w scope.now arities.now unique checks.now result }
 {
-    let t = tag(w);
     let v = k(w) as usize;
-    if t == APPLY {
-        return named(arities, v, n(w));
+    match tag(w) {
+        APPLY | SPAWN => named(arities, v, n(w)),
+        CHECK => v < CHECK_NUMBERS && !(unique && checks[v]),
+        VARIABLE => v < VARIABLES && scope[v],
+        LET => v < VARIABLES && !scope[v],
+        _ => true,
     }
-    if t == SPAWN {
-        return named(arities, v, n(w));
-    }
-    if t == CHECK {
-        if CHECK_NUMBERS <= v {
-            return false;
-        }
-        if !unique {
-            return true;
-        }
-        return !checks[v];
-    }
-    if t == VARIABLE {
-        if VARIABLES <= v {
-            return false;
-        }
-        return scope[v];
-    }
-    if t == LET {
-        if VARIABLES <= v {
-            return false;
-        }
-        return !scope[v];
-    }
-    true
 }
 
 // A check's number is met.
@@ -126,171 +91,119 @@ pub fn meet(w: u32, checks: &mut [bool; CHECK_NUMBERS])
     }
 }
 
-// A light word names nothing and binds nothing: how many words it takes, and how many terms stand below it. Any other takes none.
+// A light word names nothing and binds nothing: how many words it takes, and how many terms stand below it.
 #[derive(Clone, Copy)]
 pub struct Light {
     pub words: usize,
     pub below: usize,
 }
 
-pub fn light_word(w: u32) -> Light
+pub fn light_word(w: u32) -> Option<Light>
     ensures { LightWord w result }
 {
-    let t = tag(w);
-    if t == INTEGER {
-        return Light { words: 2, below: 0 };
-    }
-    if between(ATOM, t, CALL) {
-        return Light {
+    match tag(w) {
+        INTEGER => Some(Light { words: 2, below: 0 }),
+        ATOM..=CALL => Some(Light {
             words: 1,
             below: n(w) as usize,
-        };
+        }),
+        _ => None,
     }
-    Light { words: 0, below: 0 }
 }
 
 // Whether a tag opens a scope.
 pub fn opens(tag: u32) -> bool
     ensures { result ≡ (eqb tag tag_let || eqb tag tag_clause) }
 {
-    if tag == LET {
-        return true;
-    }
-    tag == CLAUSE
+    tag == LET || tag == CLAUSE
 }
 
-// Where words end that bind nothing, or the word that breaks a rule, or one that opens a scope: so many terms are to come from it on.
+// What is checked: a row, the parameter counts of the functions that it may name, and whether its numbers of checks have to differ.
 #[derive(Clone, Copy)]
-pub enum Plain {
-    Past(usize),
-    Broke(usize),
-    Opens(usize, usize),
+pub struct Subject<'a> {
+    pub row: &'a [u32],
+    pub arities: &'a [u32],
+    pub unique: bool,
 }
 
 // Goes through the terms ahead, which stand outside patterns, as far as words open no scope.
 pub fn keep_plain(
-    row: &[u32],
+    subject: &Subject,
     ahead: Ahead,
     scope: &[bool; VARIABLES],
-    arities: &[u32],
-    unique: bool,
     checks: &mut [bool; CHECK_NUMBERS],
-) -> Plain
-    ensures { KeepsPlain row.now ahead.at ahead.owed scope.now arities.now unique checks.old checks.new result }
+) -> Runs
+    ensures { KeepsPlain subject.now.row.now ahead.at ahead.owed scope.now subject.now.arities.now subject.now.unique checks.old checks.new result }
 {
+    let row = subject.row;
     let mut a = ahead.at;
     let mut left = ahead.owed;
     while 0 < left {
-        if row.len() <= a {
-            return Plain::Broke(a);
-        }
-        if row.len() - a < left {
-            return Plain::Broke(a);
+        if row.len() <= a || row.len() - a < left {
+            return Err(BadWord(a));
         }
         let w = row[a];
-        let head = light_word(w);
-        if 0 < head.words {
-            a += head.words;
-            left = left - 1 + head.below;
+        if let Some(light) = light_word(w) {
+            a += light.words;
+            left = left - 1 + light.below;
             continue;
         }
-        if !keeps_rule(w, scope, arities, unique, checks) {
-            return Plain::Broke(a);
+        if !keeps_rule(w, scope, subject.arities, subject.unique, checks) {
+            return Err(BadWord(a));
         }
         if opens(tag(w)) {
-            return Plain::Opens(a, left);
+            return Ok(Run::Turns(Ahead { at: a, owed: left }));
         }
         meet(w, checks);
         a += 1;
         left = left - 1 + children(w);
     }
-    Plain::Past(a)
+    Ok(Run::Ends(a))
 }
 
-// So many terms in an inner scope from a position on, then so many in the outer one; and whether numbers of checks have to differ.
-#[derive(Clone, Copy)]
-pub struct Both {
-    pub at: usize,
-    pub first: usize,
-    pub second: usize,
-    pub unique: bool,
-}
-
-// Those terms, in turn.
-fn in_turn(at: usize, first: usize, second: usize, unique: bool) -> Both
-    ensures { InTurn at first second unique result.at result.first result.second result.unique }
-{
-    Both {
-        at: at,
-        first: first,
-        second: second,
-        unique: unique,
-    }
-}
-
-// Goes through the terms ahead, which stand outside patterns, all in one scope.
+// Goes through the terms ahead, which stand outside patterns, all in one scope; where they end.
 #[cycle(keep_keep_both)]
 pub fn keep(
-    row: &[u32],
+    subject: &Subject,
     ahead: Ahead,
     scope: &[bool; VARIABLES],
-    arities: &[u32],
-    unique: bool,
     checks: &mut [bool; CHECK_NUMBERS],
-) -> Gone
-    ensures { Keeps row.now ahead.at ahead.owed scope.now arities.now unique checks.old checks.new result }
+) -> Result<usize, BadWord>
+    ensures { Keeps subject.now.row.now ahead.at ahead.owed scope.now subject.now.arities.now subject.now.unique checks.old checks.new result }
 {
-    let plain = keep_plain(row, ahead, scope, arities, unique, checks);
-    match plain {
-        Plain::Past(a) => Gone::Past(a),
-        Plain::Broke(p) => Gone::Broke(p),
-        Plain::Opens(opens, left) => {
-            let w = row[opens];
-            let from = opens + 1;
-            if tag(w) == LET {
-                let term = Ahead { at: from, owed: 1 };
-                let bound = keep(row, term, scope, arities, unique, checks);
-                let Gone::Past(a) = bound else {
-                    return bound;
-                };
-                let inner = with(scope, k(w) as usize);
-                let both = in_turn(a, 1, left - 1, unique);
-                return keep_both(row, both, &inner, scope, arities, checks);
-            }
-            let mut inner = *scope;
-            let pattern = bind(row, from, 1, &mut inner);
-            let Gone::Past(a) = pattern else {
-                return pattern;
-            };
-            let both = in_turn(a, 2, left - 1, unique);
-            keep_both(row, both, &inner, scope, arities, checks)
-        }
+    let turn = match keep_plain(subject, ahead, scope, checks)? {
+        Run::Ends(a) => return Ok(a),
+        Run::Turns(turn) => turn,
+    };
+    let w = subject.row[turn.at];
+    let from = turn.at + 1;
+    let after = turn.owed - 1;
+    if tag(w) == LET {
+        let term = Ahead { at: from, owed: 1 };
+        let a = keep(subject, term, scope, checks)?;
+        let inner = with(scope, k(w) as usize);
+        let body = Ahead { at: a, owed: 1 };
+        return keep_both(subject, body, &inner, after, scope, checks);
     }
+    let mut inner = *scope;
+    let a = bind(subject.row, from, 1, &mut inner)?;
+    let guarded = Ahead { at: a, owed: 2 };
+    keep_both(subject, guarded, &inner, after, scope, checks)
 }
 
-// Goes through terms in an inner scope, then through terms in the outer one.
+// Goes through the terms ahead in an inner scope, then through so many in the outer one.
 #[cycle(keep_keep_both)]
 pub fn keep_both(
-    row: &[u32],
-    both: Both,
+    subject: &Subject,
+    ahead: Ahead,
     inner: &[bool; VARIABLES],
+    after: usize,
     outer: &[bool; VARIABLES],
-    arities: &[u32],
     checks: &mut [bool; CHECK_NUMBERS],
-) -> Gone
-    ensures { KeepsBoth row.now both.at both.first both.second inner.now outer.now arities.now both.unique checks.old checks.new result }
+) -> Result<usize, BadWord>
+    ensures { KeepsBoth subject.now.row.now ahead.at ahead.owed after inner.now outer.now subject.now.arities.now subject.now.unique checks.old checks.new result }
 {
-    let first = Ahead {
-        at: both.at,
-        owed: both.first,
-    };
-    let one = keep(row, first, inner, arities, both.unique, checks);
-    let Gone::Past(a) = one else {
-        return one;
-    };
-    let second = Ahead {
-        at: a,
-        owed: both.second,
-    };
-    keep(row, second, outer, arities, both.unique, checks)
+    let a = keep(subject, ahead, inner, checks)?;
+    let rest = Ahead { at: a, owed: after };
+    keep(subject, rest, outer, checks)
 }

@@ -2,17 +2,16 @@
 ghost use Rattle.std.specs.Prelude.{◌≡◌};
 ghost use Rattle.term.specs.Control.{good_control};
 
-use crate::binding::{Gone, keep};
+use crate::binding::{Subject, keep};
 use rows::terms::Ahead;
 use rows::words::{CHECK_NUMBERS, VARIABLES};
-use shape::shape::{EXPRESSION, Reading, read};
+use shape::shape::{EXPRESSION, read};
 
 // Whether a row is a good control, among so many places, for functions with these parameter counts.
 pub fn check_control(row: &[u32], places: u32, arities: &[u32]) -> bool
     ensures { result ≡ good_control places arities.now row.now }
 {
-    let reading = read(row, places, 0, EXPRESSION, 1);
-    let Reading::Ends(a) = reading else {
+    let Ok(a) = read(row, places, 0, EXPRESSION, 1) else {
         return false;
     };
     if a < row.len() {
@@ -20,10 +19,11 @@ pub fn check_control(row: &[u32], places: u32, arities: &[u32]) -> bool
     }
     let mut checks = [false; CHECK_NUMBERS];
     let scope = [false; VARIABLES];
-    let whole = Ahead { at: 0, owed: 1 };
-    let walk = keep(row, whole, &scope, arities, false, &mut checks);
-    let Gone::Past(_) = walk else {
-        return false;
+    let subject = Subject {
+        row,
+        arities,
+        unique: false,
     };
-    true
+    let whole = Ahead { at: 0, owed: 1 };
+    keep(&subject, whole, &scope, &mut checks).is_ok()
 }

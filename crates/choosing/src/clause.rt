@@ -8,12 +8,6 @@ use operands::guard::holds;
 use rows::terms::skip;
 use rows::words::VARIABLES;
 
-#[derive(Clone, Copy)]
-pub enum Chosen {
-    Clause(usize),
-    Nothing,
-}
-
 // Whether the clause at `at` in `c` takes the value at `va` in `v`.
 pub fn takes(c: &[u32], at: usize, v: &[u32], va: usize) -> bool
     requires { (length c.now < place_limit) × (length v.now < place_limit) }
@@ -23,8 +17,7 @@ pub fn takes(c: &[u32], at: usize, v: &[u32], va: usize) -> bool
         return false;
     }
     let mut env = [0; VARIABLES];
-    let fits = matches(c, at + 1, v, va, 1, &mut env);
-    if !fits {
+    if !matches(c, at + 1, v, va, 1, &mut env) {
         return false;
     }
     let middle = skip(c, at + 1, 1);
@@ -32,22 +25,19 @@ pub fn takes(c: &[u32], at: usize, v: &[u32], va: usize) -> bool
 }
 
 // The first of the `n` clauses at `at` that takes the value at `va`.
-pub fn choose(c: &[u32], at: usize, n: usize, v: &[u32], va: usize) -> Chosen
+pub fn choose(c: &[u32], at: usize, n: usize, v: &[u32], va: usize) -> Option<usize>
     requires { (length c.now < place_limit) × (length v.now < place_limit) }
     ensures { ChoosesAt c.now at n v.now va result }
 {
-    if n == 0 {
-        return Chosen::Nothing;
-    }
-    if c.len() <= at {
-        return Chosen::Nothing;
+    if n == 0 || c.len() <= at {
+        return None;
     }
     if takes(c, at, v, va) {
-        return Chosen::Clause(at);
+        return Some(at);
     }
     let next = skip(c, at, 1);
     if next <= at {
-        return Chosen::Nothing;
+        return None;
     }
     choose(c, next, n - 1, v, va)
 }

@@ -1,75 +1,53 @@
 // Words read, eight hexadecimal digits each, and words of a store made others.
+ghost use Rattle.std.specs.Prelude.{◌≤◌, length};
 
 // How many digits a word has, and how many bytes it takes with the space that follows it.
 const WORD_DIGITS: usize = 8;
 
 pub const WORD_BYTES: usize = WORD_DIGITS + 1;
 
-// The base of the digits, the number before `A`, and how many words all digits but one can say.
+// The base of the digits, how many bits each has, and the number before `A`.
 const BASE: u32 = 16;
+
+const DIGIT_BITS: u32 = 4;
 
 const NINE: u32 = 9;
 
-const ALL_BUT_ONE: u32 = u32::MAX / BASE + 1;
-
-// The value of a hexadecimal digit in upper case: the low four bits of `0` are 0, those of `A` are 1.
+// The value of a hexadecimal digit in upper case: the low four bits of `0` are 0, those of `A` are 1. Not `to_digit` of std: a byte that is no
+// digit has a value too.
 fn digit(b: u8) -> u32 {
     if b <= b'9' {
-        return b as u32 % BASE;
+        return u32::from(b) % BASE;
     }
-    b as u32 % BASE + NINE
+    (u32::from(b) + NINE) % BASE
 }
 
 // The word whose digits begin a text, as far as they reach.
 fn word(text: &[u8]) -> u32 {
-    let mut w: u32 = 0;
-    let mut i = 0;
-    while i < WORD_DIGITS {
-        if text.len() <= i {
-            return w;
-        }
-        w = w % ALL_BUT_ONE * BASE + digit(text[i]) % BASE;
-        i += 1;
-    }
-    w
+    text.iter()
+        .take(WORD_DIGITS)
+        .fold(0, |w, b| (w << DIGIT_BITS) | digit(*b))
 }
 
 // Words with single spaces between them, as many as there is room for; how many there are.
-pub fn read_words(text: &[u8], words: &mut [u32]) -> usize {
-    let mut n = 0;
-    let mut at = 0;
-    while n < words.len() {
-        words[n] = word(&text[at..]);
-        n += 1;
-        if text.len() - at <= WORD_BYTES {
-            return n;
-        }
-        at += WORD_BYTES;
+pub fn read_words(text: &[u8], words: &mut [u32]) -> usize
+    ensures { result ≤ length words.old }
+{
+    for (place, digits) in words.iter_mut().zip(text.chunks(WORD_BYTES)) {
+        *place = word(digits);
     }
-    n
+    words.len().min(text.len().div_ceil(WORD_BYTES))
 }
 
 // How many words a line that alters a store has: an index and a word.
 const ALTERED: usize = 2;
 
-pub fn clear(store: &mut [u32]) {
-    let mut i = 0;
-    while i < store.len() {
-        store[i] = 0;
-        i += 1;
-    }
-}
-
-// Makes one word of the store another.
-fn alter(store: &mut [u32], index: u32, word: u32) {
-    let at = index as usize;
-    if at < store.len() {
-        store[at] = word;
-    }
-}
-
+// Makes one word of the store another, where it has one at the index.
 pub fn alter_line(store: &mut [u32], text: &[u8]) {
     let mut words = [0u32; ALTERED];
     read_words(text, &mut words);
-    alter(store, words[0], words[1]);
+    let [index, word] = words;
+    if let Some(place) = store.get_mut(index as usize) {
+        *place = word;
+    }
 }

@@ -5,6 +5,7 @@ use mathlib.Core.List.{List, [], ◌∷◌, ◌++◌}
 use native.Mathlib.Omega.{arith}
 use native.Mathlib.Decide.{ℕ_discrete}
 use lib.ListN.{length, drop, get_or}
+use Rattle.std.specs.Prelude.{Some, None}
 use Rattle.lists.proofs.Tests.{eqb_of, eqb_apart}
 use Rattle.term.specs.Words.{word, tag_of, n_of, integer_word, tag_integer, tag_variable, tag_cons}
 use Rattle.term.specs.Table.{arity}
@@ -14,7 +15,7 @@ use Rattle.term.proofs.TreeLaws.{◌and_all◌, words_all}
 use Rattle.machine.specs.Match.{Bindings}
 use Rattle.machine.specs.Bind.{bind, bind_all}
 use Rattle.row_laws.specs.Rows.{Stands, Plain, PlainAll, Bound}
-use Rattle.copying.specs.Copies.{Wrote, Copies, CopiedTerm, CopiedTerms, entry_of}
+use Rattle.copying.specs.Copies.{Wrote, Copies, CopiedTerm, CopiedTerms, entry_of, EntryIs}
 use Rattle.row_laws.proofs.RowTerms.{NodeAt, node_at, integer_at, not_integer_at, no_count, some_words, no_children}
 use Rattle.row_laws.proofs.RowBind.{bind_other, bind_free, bind_bound, entry_none, entry_value}
 use Rattle.copying.proofs.RowMatch.{plain_all}
@@ -139,20 +140,25 @@ module _ (src : List ℕ) (at p : ℕ) (values env : List ℕ) (to : ℕ) (o : L
   unfolding Copies
   copy_full f = record { copies = λ ts rest bindings h s e b. wrote_full (words_of (bind_all bindings ts)) o to room f; within = room }
 
-  module _ (nz : ¬ (p ≡ 0)) (en : ℕ) (ee : en ≡ entry_of env (get_or src at 0)) where
-    pub copy_value : ¬ (en ≡ 0) → (b r : ℕ) (mid new : List ℕ) → CopiedTerm values (en - 1) to o mid b → length mid ≡ length o → CopiedTerms src (at + 1) (p - 1) values env b mid new r
-        → CopiedTerms src at p values env to o new r
-    copy_value d b r mid new one len ih = record { copies = value_copies src at p values env to o nz en ee d b r mid new one ih.copies; within = omega (arith, ih.within, len) }
+  module _ (nz : ¬ (p ≡ 0)) where
+    pub copy_value : (place : ℕ) → EntryIs env (get_or src at 0) (Some place) → (b r : ℕ) (mid new : List ℕ) → CopiedTerm values place to o mid b → length mid ≡ length o
+        → CopiedTerms src (at + 1) (p - 1) values env b mid new r → CopiedTerms src at p values env to o new r
+    copy_value place e b r mid new one len ih =
+        let there : place ≡ place + 1 - 1 = omega arith in
+        record {
+          copies = value_copies src at p values env to o nz (place + 1) (sym e) (λ z. omega arith) b r mid new (subst (λ (j : ℕ). CopiedTerm values j to o mid b) there one) ih.copies;
+          within = omega (arith, ih.within, len);
+        }
 
-    module _ (z : en ≡ 0) (b : ℕ) (mid : List ℕ) (one : Wrote (get_or src at 0 ∷ []) to o mid b) (g : ℕ) (eg : g ≡ tag_of (get_or src at 0)) where
+    module _ (z : EntryIs env (get_or src at 0) None) (b : ℕ) (mid : List ℕ) (one : Wrote (get_or src at 0 ∷ []) to o mid b) (g : ℕ) (eg : g ≡ tag_of (get_or src at 0)) where
       pub copy_short : g ≡ tag_integer → length src - at < 2 → CopiedTerms src at p values env to o mid b
-      copy_short i short = record { copies = short_copies src at p values env to o nz en ee z b mid one g eg i short; within = wrote_within _ to o mid b one }
+      copy_short i short = record { copies = short_copies src at p values env to o nz _ refl z b mid one g eg i short; within = wrote_within _ to o mid b one }
 
       pub copy_integer : g ≡ tag_integer → (d r : ℕ) (mid' new : List ℕ) → Wrote (get_or src (at + 1) 0 ∷ []) b mid mid' d → CopiedTerms src (at + 2) (p - 1) values env d mid' new r
           → CopiedTerms src at p values env to o new r
       copy_integer i d r mid' new two ih =
-          record { copies = integer_copies src at p values env to o nz en ee z b mid one g eg i d r mid' new two ih.copies; within = omega (arith, ih.within, wrote_length _ to o mid b one, wrote_length _ b mid mid' d two) }
+          record { copies = integer_copies src at p values env to o nz _ refl z b mid one g eg i d r mid' new two ih.copies; within = omega (arith, ih.within, wrote_length _ to o mid b one, wrote_length _ b mid mid' d two) }
 
       pub copy_node : ¬ (g ≡ tag_integer) → (c r : ℕ) (new : List ℕ) → c ≡ arity (tag_of (get_or src at 0)) (n_of (get_or src at 0)) → CopiedTerms src (at + 1) (p - 1 + c) values env b mid new r
           → CopiedTerms src at p values env to o new r
-      copy_node i c r new ec ih = record { copies = node_copies src at p values env to o nz en ee z b mid one g eg i c r new ec ih.copies; within = omega (arith, ih.within, wrote_length _ to o mid b one) }
+      copy_node i c r new ec ih = record { copies = node_copies src at p values env to o nz _ refl z b mid one g eg i c r new ec ih.copies; within = omega (arith, ih.within, wrote_length _ to o mid b one) }

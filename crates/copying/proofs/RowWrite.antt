@@ -1,18 +1,19 @@
 -- Laws of writing words one after another, as far as there is room.
 use Prim.Native.Nat.{ℕ, suc, ◌+◌, ◌-◌, ◌<◌, ◌≤◌, min}
-use mathlib.Core.Path.{◌≡◌, refl, sym, ap, ap₂, ◌∙◌}
+use mathlib.Core.Path.{◌≡◌, refl, sym, ap, ap₂, ◌∙◌, subst}
 use mathlib.Core.List.{List, [], ◌∷◌, ◌++◌}
 use native.Mathlib.Omega.{arith}
 use native.Mathlib.Decide.{dec_le}
 use native.Mathlib.Nat.{add-zero, add-suc, suc-add}
 use native.Mathlib.Numerals.{add-one}
-use lib.ListN.{length, drop, take, get_or, set, length-append, length-drop, get_or-eq_default}
-use lib.Seq.{sets, length-sets, take-suc, get_or-drop, set_out, take-append_seam}
+use lib.ListN.{length, drop, take, get_or, set, length-append, get_or-eq_default}
+use lib.Seq.{take_all, sets, length-sets, take-suc, set_out, take-append_seam}
+use Rattle.std.specs.Prelude.{Option, Some, None, SomeIff}
 use Rattle.lists.proofs.Tests.{eqb_of, eqb_apart}
 use Rattle.term.specs.Words.{tag_of, k_of, tag_variable}
 use Rattle.term.specs.Rows.{passed}
 use Rattle.term.specs.Tree.{words}
-use Rattle.copying.specs.Copies.{Wrote, CopiedTerm, entry_of}
+use Rattle.copying.specs.Copies.{Wrote, CopiedTerm, entry_of, EntryIs}
 use Rattle.row_laws.proofs.RowTerms.{one_skip, plain_whole, stands_within}
 
 pub sets_append : (o : List ℕ) (to : ℕ) (a b : List ℕ) → sets o to (a ++ b) ≡ sets (sets o to a) (to + length a) b
@@ -65,30 +66,38 @@ pub put_out : (o : List ℕ) (to w : ℕ) → length o ≤ to → Wrote (w ∷ [
 put_out o to w h = record { new_is = sym (sets_out o to (w ∷ []) h); ends = omega arith }
 
 -- ---- words of another row
-pub words_more : (l : List ℕ) (from to i b r : ℕ) (o mid new : List ℕ) → Wrote (take i (drop from l)) to o mid b → Wrote (get_or l (from + i) 0 ∷ []) b mid new r → from + i < length l
-    → Wrote (take (i + 1) (drop from l)) to o new r
-words_more l from to i b r o mid new w w' h =
-    let d : i < length (drop from l) = omega (arith, length-drop from l) in
-    let e : take (i + 1) (drop from l) ≡ take i (drop from l) ++ (get_or l (from + i) 0 ∷ []) = rw (add-one, take-suc (drop from l) i 0 d, get_or-drop) in
-    rw e (wrote_then (take i (drop from l)) (get_or l (from + i) 0 ∷ []) to b o mid new r w w')
+pub words_more : (xs : List ℕ) (to i b r : ℕ) (o mid new : List ℕ) → Wrote (take i xs) to o mid b → Wrote (get_or xs i 0 ∷ []) b mid new r → i < length xs → Wrote (take (i + 1) xs) to o new r
+words_more xs to i b r o mid new w w' h =
+    let e : take (i + 1) xs ≡ take i xs ++ (get_or xs i 0 ∷ []) = rw (add-one, take-suc xs i 0 h) in
+    rw e (wrote_then (take i xs) (get_or xs i 0 ∷ []) to b o mid new r w w')
 
-pub words_all_written : (l : List ℕ) (from to i n b : ℕ) (o new : List ℕ) → Wrote (take i (drop from l)) to o new b → i ≤ n → n ≤ i → Wrote (take n (drop from l)) to o new b
-words_all_written l from to i n b o new w h h' = let e : i ≡ n = omega arith in rw e at w
+pub words_all_written : (l : List ℕ) (from to i n b : ℕ) (o new : List ℕ) → let xs = take (from + n - from) (drop from l) in Wrote (take i xs) to o new b → length xs ≤ i → Wrote (take n (drop from l)) to o new b
+words_all_written l from to i n b o new w h =
+    let xs = take (from + n - from) (drop from l) in
+    let e : take i xs ≡ take n (drop from l) = take_all i xs h ∙ ap (λ (m : ℕ). take m (drop from l)) (omega arith) in
+    rw e at w
 
 -- ---- the entry for a word
 module _ (env : List ℕ) (w t : ℕ) (et : t ≡ tag_of w) where
-  pub entry_not : ¬ (t ≡ tag_variable) → 0 ≡ entry_of env w
+  pub entry_not : ¬ (t ≡ tag_variable) → EntryIs env w None
   unfolding entry_of
   entry_not d = rw (eqb_apart (tag_of w) tag_variable (λ z. d (et ∙ z)))
 
   module _ (e : t ≡ tag_variable) (k : ℕ) (ek : k ≡ k_of w) where
-    pub entry_past : length env ≤ k → 0 ≡ entry_of env w
+    entry_read : entry_of env w ≡ get_or env k 0
     unfolding entry_of
-    entry_past h = rw (eqb_of (tag_of w) tag_variable (sym et ∙ e), ← ek, get_or-eq_default env 0 h)
+    entry_read = rw (eqb_of (tag_of w) tag_variable (sym et ∙ e), ek)
 
-    pub entry_is : get_or env k 0 ≡ entry_of env w
-    unfolding entry_of
-    entry_is = rw (eqb_of (tag_of w) tag_variable (sym et ∙ e), ek)
+    pub entry_past : length env ≤ k → (r : Option ℕ) → r ≡ None → EntryIs env w r
+    entry_past h r er = subst (EntryIs env w) (sym er) (entry_read ∙ get_or-eq_default env 0 h)
+
+    pub entry_is : (after : ℕ) → after ≡ get_or env k 0 → (r : Option ℕ) → SomeIff r (1 ≤ after) (after - 1) → EntryIs env w r
+    entry_is after ea (Some place) h = entry_read ∙ sym ea ∙ omega (arith, h.0, h.1)
+    entry_is after ea None h = entry_read ∙ sym ea ∙ go (dec_le 1 after)
+      where
+        go : Dec (1 ≤ after) → after ≡ 0
+        go (yes p) = absurd (h p)
+        go (no d) = omega arith
 
 -- ---- one term
 module _ (l : List ℕ) (at to : ℕ) (o : List ℕ) where

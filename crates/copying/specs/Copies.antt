@@ -1,5 +1,5 @@
 -- What the functions that write words and terms promise.
-use Rattle.std.specs.Prelude.{ℕ, suc, ◌+◌, ◌≤◌, min, ◌≡◌, cond, List, ◌++◌, eqb, length, drop, get_or}
+use Rattle.std.specs.Prelude.{ℕ, suc, ◌+◌, ◌≤◌, min, ◌≡◌, cond, List, ◌++◌, eqb, length, drop, get_or, Option, Some, None}
 use Rattle.std.proofs.lemmas.List.Edits.{sets}
 use Rattle.term.specs.Words.{tag_of, k_of, tag_variable}
 use Rattle.term.specs.Tree.{Term, Terms, words, words_of, count}
@@ -30,3 +30,8 @@ pub record CopiedTerms (src : List ℕ) (at m : ℕ) (values env : List ℕ) (to
 -- the entry for a word: 0 for one that is no variable
 unfoldable pub entry_of : List ℕ → ℕ → ℕ
 entry_of env w = cond (eqb (tag_of w) tag_variable) (get_or env (k_of w) 0) 0
+
+-- where the value stands that the entry has, if it has one
+abbrev pub EntryIs : List ℕ → ℕ → Option ℕ → Type 0
+EntryIs env w (Some at) = entry_of env w ≡ at + 1
+EntryIs env w None = entry_of env w ≡ 0

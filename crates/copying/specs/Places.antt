@@ -1,5 +1,5 @@
 -- Where the working place of a term is in its row, and what the search for it promises.
-use Rattle.std.specs.Prelude.{ℕ, zero, suc, ◌+◌, ◌≤◌, ◌≡◌, cond, List, ◌++◌, length, drop}
+use Rattle.std.specs.Prelude.{ℕ, zero, suc, ◌+◌, ◌≤◌, ◌<◌, ◌≡◌, cond, List, ◌++◌, length, drop, Option, Some, None}
 use Rattle.term.specs.Words.{tag_of, n_of}
 use Rattle.term.specs.Tree.{Term, Terms, int, node, end, ◌then◌, words, words_of, count, Head, WholeAll}
 use Rattle.term.specs.Value.{is_value}
@@ -25,3 +25,8 @@ pub record EntersOf (w r : ℕ) : Type 0 where
 
 unfoldable pub Finds : List ℕ → ℕ → ℕ → ℕ → ℕ → Type 0
 Finds l at m here r = (ts : Terms) (rest : List ℕ) → WholeAll ts → m ≤ count ts → drop at l ≡ words_of ts ++ rest → r ≡ place_among ts m here at
+
+-- where the first of a row's terms is worked on, if that is a place in the row
+abbrev pub PlaceIs : List ℕ → Option ℕ → Type 0
+PlaceIs c (Some at) = Finds c 0 1 (length c) at × (at < length c)
+PlaceIs c None = (at : ℕ) × Finds c 0 1 (length c) at × (length c ≤ at)

@@ -1,7 +1,8 @@
-// Writing rows: words one after another as far as there is room. A place past the buffer's end is its length plus 1.
+// Writing rows: words one after another as far as there is room. A place past the buffer's end is its length plus 1, and no `None`, as
+// `Wrote` says: the words after it are then put by the same calls, and `fitted` tests once, at the end.
 ghost use Rattle.std.specs.Prelude.{◌≡◌, [], ◌∷◌, suc, ◌<◌, ◌≤◌, ◌+◌, ◌*◌, ◌-◌, length, take, drop};
 ghost use Rattle.row_laws.specs.Bounds.{most_children, pending_limit, walk_limit};
-ghost use Rattle.copying.specs.Copies.{Wrote, CopiedTerm, CopiedTerms, entry_of};
+ghost use Rattle.copying.specs.Copies.{Wrote, CopiedTerm, CopiedTerms, EntryIs};
 
 use rows::tables::children;
 use rows::terms::{Ahead, skip};
@@ -22,11 +23,9 @@ pub fn copy_words(src: &[u32], from: usize, n: usize, out: &mut [u32], to: usize
     requires { (from + n ≤ length src.now) × (to ≤ suc (length out.old)) }
     ensures { Wrote (take n (drop from src.now)) to out.old out.new result }
 {
-    let mut i = 0;
     let mut b = to;
-    while i < n {
-        b = put(out, b, src[from + i]);
-        i += 1;
+    for w in &src[from..from + n] {
+        b = put(out, b, *w);
     }
     b
 }
@@ -43,18 +42,16 @@ pub fn copy_term(src: &[u32], at: usize, out: &mut [u32], to: usize) -> usize
     copy_words(src, at, end - at, out, to)
 }
 
-// What stands in `env` for the word `w`: 0 where `w` is no variable or is unbound.
-pub fn entry(env: &[u32], w: u32) -> usize
-    ensures { result ≡ entry_of env.now w }
+// Where the value stands that `env` has for the word `w`; none where `w` is no variable or is unbound.
+// An entry is a word, as `Entry` says: the place after the value's, and 0 where there is none.
+pub fn entry(env: &[u32], w: u32) -> Option<usize>
+    ensures { EntryIs env.now w result }
 {
     if tag(w) != VARIABLE {
-        return 0;
+        return None;
     }
-    let x = k(w) as usize;
-    if env.len() <= x {
-        return 0;
-    }
-    env[x] as usize
+    let after = *env.get(k(w) as usize)? as usize;
+    after.checked_sub(1)
 }
 
 // The terms ahead, with the values of `env`, which stand in `v`, in place of their variables; no more where words run out, as they never
@@ -64,20 +61,13 @@ pub fn copy(row: &[u32], ahead: Ahead, v: &[u32], env: &[u32], out: &mut [u32], 
     ensures { CopiedTerms row.now ahead.at ahead.owed v.now env.now to out.old out.new result }
 {
     let at = ahead.at;
-    if ahead.owed == 0 {
-        return to;
-    }
-    if row.len() <= at {
-        return to;
-    }
-    if out.len() < to {
+    if ahead.owed == 0 || row.len() <= at || out.len() < to {
         return to;
     }
     let w = row[at];
     let left = ahead.owed - 1;
-    let e = entry(env, w);
-    if e != 0 {
-        let b = copy_term(v, e - 1, out, to);
+    if let Some(place) = entry(env, w) {
+        let b = copy_term(v, place, out, to);
         let a = at + 1;
         return copy(row, Ahead { at: a, owed: left }, v, env, out, b);
     }

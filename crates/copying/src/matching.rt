@@ -7,7 +7,7 @@ use rows::tables::children;
 use rows::terms::skip;
 use rows::words::{INTEGER, VARIABLE, k, tag};
 
-// Whether the `pending` values at `va` in `v` fit the patterns at `pa` in `p`; for each variable `env` gets the place after its value's.
+// Whether the `pending` values at `va` in `v` fit the patterns at `pa` in `p`; for each variable `env` gets the place after its value's, so that 0 is none's, as `Entry` says.
 // Not where words run out or a variable has no entry, which the control check rules out.
 pub fn matches(p: &[u32], pa: usize, v: &[u32], va: usize, pending: usize, env: &mut [u32]) -> bool
     requires { (pa ≤ length p.now) × (pending + most_children * (length p.now - pa) < pending_limit) × (length v.now < place_limit) }
@@ -16,10 +16,7 @@ pub fn matches(p: &[u32], pa: usize, v: &[u32], va: usize, pending: usize, env: 
     if pending == 0 {
         return true;
     }
-    if p.len() <= pa {
-        return false;
-    }
-    if v.len() <= va {
+    if p.len() <= pa || v.len() <= va {
         return false;
     }
     let w = p[pa];
@@ -35,13 +32,7 @@ pub fn matches(p: &[u32], pa: usize, v: &[u32], va: usize, pending: usize, env: 
         return false;
     }
     if tag(w) == INTEGER {
-        if p.len() - pa < 2 {
-            return false;
-        }
-        if v.len() - va < 2 {
-            return false;
-        }
-        if p[pa + 1] != v[va + 1] {
+        if p.len() - pa < 2 || v.len() - va < 2 || p[pa + 1] != v[va + 1] {
             return false;
         }
         return matches(p, pa + 2, v, va + 2, pending - 1, env);

@@ -1,8 +1,8 @@
 // The working place.
 ghost use Rattle.std.specs.Prelude.{◌≡◌, ◌&&◌, ℕ, ◌<◌, ◌≤◌, ◌+◌, ◌*◌, ◌-◌, leb, length, get_or};
 ghost use Rattle.term.specs.Words.{tag_atom, tag_tuple};
-ghost use Rattle.row_laws.specs.Bounds.{most_children, pending_limit};
-ghost use Rattle.copying.specs.Places.{EntersOf, Finds};
+ghost use Rattle.row_laws.specs.Bounds.{most_children, pending_limit, place_limit};
+ghost use Rattle.copying.specs.Places.{EntersOf, Finds, PlaceIs};
 
 use rows::tables::children;
 use rows::words::{ATOM, CASE, INTEGER, LET, RECEIVE, TUPLE, n, tag};
@@ -18,20 +18,12 @@ fn of_value(t: u32) -> bool
 fn entered(w: u32) -> usize
     ensures { EntersOf w result }
 {
-    let t = tag(w);
-    if t == RECEIVE {
-        return 0;
+    match tag(w) {
+        RECEIVE => 0,
+        CASE => 1,
+        LET => { if n(w) == 0 { 0 } else { 1 } }
+        _ => children(w),
     }
-    if t == CASE {
-        return 1;
-    }
-    if t == LET {
-        if n(w) == 0 {
-            return 0;
-        }
-        return 1;
-    }
-    children(w)
 }
 
 // Where the first word stands that is no value's, of the `pending` terms at `at`; the row's end where all are values, or where words run
@@ -79,4 +71,13 @@ pub fn find(src: &[u32], at: usize, pending: usize, here: usize) -> usize
         return here;
     }
     find(src, x + 1, entered(src[x]), x)
+}
+
+// The working place of a control; none where it is a value.
+pub fn working_place(c: &[u32]) -> Option<usize>
+    requires { length c.now < place_limit }
+    ensures { PlaceIs c.now result }
+{
+    let at = find(c, 0, 1, c.len());
+    if at < c.len() { Some(at) } else { None }
 }

@@ -1,5 +1,5 @@
 -- Chains of links: an index is made link by link, and a walk from a slot meets every link on an event of that slot.
-use Prim.Native.Nat.{ℕ, ◌+◌, ◌-◌, ◌≤◌, ◌<◌}
+use Prim.Native.Nat.{ℕ, ◌+◌, ◌≤◌, ◌<◌}
 use mathlib.Core.Path.{◌≡◌, refl, sym, ◌∙◌, ap, subst}
 use mathlib.Core.List.{List}
 use native.Mathlib.Decide.{ℕ_discrete, dec_lt}
@@ -8,7 +8,7 @@ use lib.ListN.{length, get_or, set, length-set, length-replicate, get_or-replica
 use lib.Seq.{get_or-set_same, get_or-set_other}
 use Rattle.cuts.specs.Bounds.{most_links}
 use Rattle.cuts.specs.declared.link.Link.{Link}
-use Rattle.cuts.specs.Links.{from_line, from_index, on_line, on_index, IsLink, Room}
+use Rattle.cuts.specs.Links.{from_line, from_index, on_line, on_index, Room}
 use Rattle.cuts.specs.Chains.{slot_count, slot_of, index_room, no_chains, Chained, here, there, Indexed, Waiting}
 
 -- a chain goes up
@@ -28,7 +28,7 @@ chained_kept {m = m} from same h (there {j} {k} less c) =
     there {j = j} (omega (arith, less, same j h)) (subst (λ i. Chained m i k) (sym (same j h)) (chained_kept from same (omega (arith, less, h)) c))
 
 -- ---- one link more
-module _ (links index : List ℕ) (k count s : ℕ) (room : Room links count) (below : k < count) (at : s ≡ slot_of (on_line links k) (on_index links k)) (indexed : Indexed links (k + 1) count index) where
+module _ (links : List Link) (index : List ℕ) (k s : ℕ) (room : Room links) (below : k < length links) (at : s ≡ slot_of (on_line links k) (on_index links k)) (indexed : Indexed links (k + 1) index) where
   abbrev entered : List ℕ
   entered = set (set index (slot_count + k) (get_or index s 0)) s k
 
@@ -62,13 +62,13 @@ module _ (links index : List ℕ) (k count s : ℕ) (room : Room links count) (b
     | no n ↦ omega (arith, at_other t n (λ e. omega (arith, e, h)), indexed.heads t h)
   ]
 
-  nexts_on : (j : ℕ) → k ≤ j → j < count → j < get_or entered (slot_count + j) 0
+  nexts_on : (j : ℕ) → k ≤ j → j < length links → j < get_or entered (slot_count + j) 0
   nexts_on j g h = elim (ℕ_discrete j k) [
     | yes e ↦ omega (arith, e, ap (λ z. get_or entered (slot_count + z) 0) e, at_link, indexed.heads s low)
     | no n ↦ (let g' : k + 1 ≤ j = omega (arith, g, n) in omega (arith, same_after j g', indexed.nexts j g' h))
   ]
 
-  all_on : (j : ℕ) → k ≤ j → j < count → Chained entered (get_or entered (slot_at j) 0) j
+  all_on : (j : ℕ) → k ≤ j → j < length links → Chained entered (get_or entered (slot_at j) 0) j
   all_on j g h = elim (ℕ_discrete j k) [
     | yes e ↦ subst (λ z. Chained entered (get_or entered (slot_at z) 0) z) (sym e) (subst (λ z. Chained entered z k) (sym (ap (λ z. get_or entered z 0) (sym at) ∙ at_slot)) here)
     | no n ↦ later (omega (arith, g, n)) (ℕ_discrete (slot_at j) s)
@@ -90,7 +90,7 @@ module _ (links index : List ℕ) (k count s : ℕ) (room : Room links count) (b
     | no n ↦ elim (ℕ_discrete j (slot_count + k)) [ yes e ↦ omega (arith, ap (λ z. get_or entered z 0) e, at_link, indexed.small s) | no m ↦ omega (arith, at_other j n m, indexed.small j) ]
   ]
 
-  pub enter_on : Indexed links k count entered
+  pub enter_on : Indexed links k entered
   enter_on = record {
     long = length-set (set index (slot_count + k) (get_or index s 0)) s k ∙ length-set index (slot_count + k) (get_or index s 0) ∙ indexed.long;
     small = small_on;
@@ -99,12 +99,8 @@ module _ (links index : List ℕ) (k count s : ℕ) (room : Room links count) (b
     all = all_on;
   }
 
--- the slot that the code finds
-pub slot_at_lem : (links : List ℕ) (k s : ℕ) (l : Link) → IsLink links k l → s ≡ slot_of l.on l.at → s ≡ slot_of (on_line links k) (on_index links k)
-slot_at_lem links k s l is e = e ∙ ap (λ z. slot_of z l.at) is.on_line_lem ∙ ap (λ z. slot_of (on_line links k) z) is.on_index_lem
-
-pub index_start : (links index : List ℕ) (count : ℕ) → count ≤ most_links → index ≡ no_chains → Indexed links count count index
-index_start links index count few e = subst (Indexed links count count) (sym e) (record {
+pub index_start : (links : List Link) (index : List ℕ) → length links ≤ most_links → index ≡ no_chains → Indexed links (length links) index
+index_start links index few e = subst (Indexed links (length links)) (sym e) (record {
   long = length-replicate {A = ℕ} index_room most_links;
   small = small;
   heads = λ s h. omega (arith, few, get_or-replicate {A = ℕ} index_room s most_links 0 (omega (arith, h)));
@@ -119,20 +115,17 @@ index_start links index count few e = subst (Indexed links count count) (sym e) 
     ]
 
 -- ---- the links of events that stay
-pub waiting_start : (links : List ℕ) (count : ℕ) (level index : List ℕ) → Indexed links 0 count index → Waiting links count level index
-waiting_start links count level index indexed =
+pub waiting_start : (links : List Link) (level index : List ℕ) → Indexed links 0 index → Waiting links level index
+waiting_start links level index indexed =
     record { long = indexed.long; small = indexed.small; nexts = λ k h. indexed.nexts k (omega arith) h; all = λ k h stays. indexed.all k (omega arith) h }
 
 -- as events go, fewer links wait
-pub waiting_less : (links : List ℕ) (count : ℕ) (level lower index : List ℕ) → ((x : ℕ) → get_or lower x 0 ≤ get_or level x 0) → Waiting links count level index → Waiting links count lower index
-waiting_less links count level lower index under waiting =
+pub waiting_less : (links : List Link) (level lower index : List ℕ) → ((x : ℕ) → get_or lower x 0 ≤ get_or level x 0) → Waiting links level index → Waiting links lower index
+waiting_less links level lower index under waiting =
     record { long = waiting.long; small = waiting.small; nexts = waiting.nexts; all = λ k h stays. waiting.all k h (omega (arith, stays, under (from_line links k))) }
 
 -- a link whose event is gone is left out
-module _ (links : List ℕ) (count : ℕ) (level index : List ℕ) (s : ℕ) (room : Room links count) (low : s < slot_count) (waiting : Waiting links count level index) (below : get_or index s 0 < count) (gone : ¬ (from_index links (get_or index s 0) < get_or level (from_line links (get_or index s 0)) 0)) where
-  abbrev first : ℕ
-  first = get_or index s 0
-
+module _ (links : List Link) (level index : List ℕ) (s first : ℕ) (room : Room links) (low : s < slot_count) (waiting : Waiting links level index) (first_at : first ≡ get_or index s 0) (below : first < length links) (gone : ¬ (from_index links first < get_or level (from_line links first) 0)) where
   abbrev next : ℕ
   next = get_or index (slot_count + first) 0
 
@@ -148,16 +141,16 @@ module _ (links : List ℕ) (count : ℕ) (level index : List ℕ) (s : ℕ) (ro
   dropped_after : (i : ℕ) → 0 ≤ i → get_or dropped (slot_count + i) 0 ≡ get_or index (slot_count + i) 0
   dropped_after i h = dropped_other (slot_count + i) (λ e. omega (arith, e, low))
 
-  dropped_all : (k : ℕ) → k < count → from_index links k < get_or level (from_line links k) 0 → Chained dropped (get_or dropped (slot_of (on_line links k) (on_index links k)) 0) k
+  dropped_all : (k : ℕ) → k < length links → from_index links k < get_or level (from_line links k) 0 → Chained dropped (get_or dropped (slot_of (on_line links k) (on_index links k)) 0) k
   dropped_all k h stays = elim (ℕ_discrete (slot_of (on_line links k) (on_index links k)) s) [
     | yes e ↦ (
-        let old : Chained index first k = subst (λ z. Chained index (get_or index z 0) k) e (waiting.all k h stays) in
+        let old : Chained index first k = subst (λ z. Chained index z k) (ap (λ z. get_or index z 0) e ∙ sym first_at) (waiting.all k h stays) in
         let onward : Chained index next k = chained_next old (λ same. gone (subst (λ z. from_index links z < get_or level (from_line links z) 0) (sym same) stays)) in
         subst (λ z. Chained dropped z k) (sym (ap (λ z. get_or dropped z 0) e ∙ dropped_here)) (chained_kept 0 dropped_after (omega arith) onward))
     | no n ↦ subst (λ z. Chained dropped z k) (sym (dropped_other (slot_of (on_line links k) (on_index links k)) n)) (chained_kept 0 dropped_after (omega arith) (waiting.all k h stays))
   ]
 
-  pub drop_on : Waiting links count level dropped
+  pub drop_on : Waiting links level dropped
   drop_on = record {
     long = length-set index s next ∙ waiting.long;
     small = λ j. elim (ℕ_discrete j s) [ yes e ↦ omega (arith, ap (λ z. get_or dropped z 0) e, dropped_here, waiting.small (slot_count + first)) | no n ↦ omega (arith, dropped_other j n, waiting.small j) ];
@@ -165,10 +158,7 @@ module _ (links : List ℕ) (count : ℕ) (level index : List ℕ) (s : ℕ) (ro
     all = dropped_all;
   }
 
-  pub drop_less : count - get_or dropped s 0 < count - get_or index s 0
-  drop_less = omega (arith, dropped_here, waiting.nexts first below, below)
-
 -- ---- the links on one event stand in the chain of its slot
-pub chain_from : (links index : List ℕ) (count x i s : ℕ) → Indexed links 0 count index → s ≡ slot_of x i → (k : ℕ) → k < count → on_line links k ≡ x → on_index links k ≡ i → Chained index (get_or index s 0) k
-chain_from links index count x i s indexed at k h e f =
+pub chain_from : (links : List Link) (index : List ℕ) (x i s : ℕ) → Indexed links 0 index → s ≡ slot_of x i → (k : ℕ) → k < length links → on_line links k ≡ x → on_index links k ≡ i → Chained index (get_or index s 0) k
+chain_from links index x i s indexed at k h e f =
     subst (λ z. Chained index (get_or index z 0) k) (sym (at ∙ sym (ap (λ z. slot_of z i) e) ∙ sym (ap (λ z. slot_of (on_line links k) z) f))) (indexed.all k (omega arith) h)

@@ -15,13 +15,14 @@ use Rattle.demands.proofs.CutNumbers.{Good}
 use Rattle.demands.proofs.Removal.{in_level}
 use Rattle.demands.proofs.CutLoop.{Loop, loop_start, lower_rec, lower_since, lower_send, lower_child, lower_child_mail, loop_done}
 use Rattle.cuts.specs.Bounds.{line_count}
+use Rattle.cuts.specs.declared.link.Link.{Link}
 use Rattle.cuts.specs.Links.{cut_in, from_line, from_index, Ties, of_rec, of_since, of_send, of_child, of_mail, LinkAt, Tied, Room}
 use Rattle.cuts.specs.Going.{Tears, lower_to, Lowers, stay, down, Settled, Settles}
 use Rattle.cuts.proofs.Lines.{at_line, cut_set}
 use Rattle.cuts.proofs.LowerLaws.{lowers_long}
 
 -- ---- a link that a cut tears, by lines
-module _ {links cut : List ℕ} {k a b : ℕ} {x y : Series} (at : LinkAt links k x a y b) where
+module _ {links : List Link} {cut : List ℕ} {k a b : ℕ} {x y : Series} (at : LinkAt links k x a y b) where
   pub tears_stays : Tears links cut k → a < cut_in cut x
   tears_stays t = omega (arith, t.stays, at.from_index_lem, at_line cut x at.from_line_lem)
 
@@ -39,7 +40,7 @@ module _ {s : State} (sound : Sound s) (x : Series) (i : ℕ) (happens : i < lev
   tie_lower (of_child st is) l h g = (lower_child sound x i happens l st is g h).0
   tie_lower (of_mail st is) l h g = (lower_child_mail sound x i happens l st is g h).0
 
-  pub link_lower : {links cut : List ℕ} {few k : ℕ} → Tied s links few → k < few → Tears links cut k → from_line links k < length cut → Loop sound x i happens (cut_in cut)
+  pub link_lower : {links : List Link} {cut : List ℕ} {few k : ℕ} → Tied s links few → k < few → Tears links cut k → from_line links k < length cut → Loop sound x i happens (cut_in cut)
       → Loop sound x i happens (cut_in (lower_to links k cut))
   unfolding lower_to
   link_lower {links} {cut} {few} {k} tied h t low l =
@@ -49,7 +50,7 @@ module _ {s : State} (sound : Sound s) (x : Series) (i : ℕ) (happens : i < lev
       (subst (λ n. Loop sound x i happens (cut_to says.from n (cut_in cut))) (sym at.from_index_lem) (tie_lower says.holds l (tears_stays at t) (tears_goes at t)))
 
 -- ---- where no link is torn
-module _ {s : State} {links cut : List ℕ} {few : ℕ} (tied : Tied s links few) (whole : (k : ℕ) → k < few → ¬ Tears links cut k) where
+module _ {s : State} {links : List Link} {cut : List ℕ} {few : ℕ} (tied : Tied s links few) (whole : (k : ℕ) → k < few → ¬ Tears links cut k) where
   kept : {y z : Series} {a b : ℕ} → Ties s y a z b → a < cut_in cut y → b < cut_in cut z
   kept {y} {z} {a} {b} t h = elim (dec_lt b (cut_in cut z)) [
     | yes g ↦ g
@@ -79,13 +80,13 @@ module _ {s : State} {links cut : List ℕ} {few : ℕ} (tied : Tied s links few
   good_cut = all_good
 
 -- ---- a cut that was lowered until no link is torn
-module _ {links : List ℕ} {few : ℕ} {from : List ℕ} (room : Room links few) (long : length from ≡ line_count) {s : State} (x : Series) (i : ℕ) (sound : Sound s) (tied : Tied s links few) (happens : i < level s x) (at : cut_in from ≡ cut_to x i (level s)) where
-  lowers_loop : {to : List ℕ} → Lowers links few from to → Loop sound x i happens (cut_in to)
+module _ {links : List Link} {from : List ℕ} (room : Room links) (long : length from ≡ line_count) {s : State} (x : Series) (i : ℕ) (sound : Sound s) (tied : Tied s links (length links)) (happens : i < level s x) (at : cut_in from ≡ cut_to x i (level s)) where
+  lowers_loop : {to : List ℕ} → Lowers links from to → Loop sound x i happens (cut_in to)
   lowers_loop stay = subst (Loop sound x i happens) (sym at) (loop_start sound x i happens)
   lowers_loop (down {cut} {k} l h t) = link_lower sound x i happens tied h t (omega (arith, (room.each k h).from_line_lem, lowers_long l, long)) (lowers_loop l)
 
-pub settled_settles : (links : List ℕ) (few : ℕ) (from to : List ℕ) → Room links few → length from ≡ line_count → Settled links few from to → Settles links few from to
+pub settled_settles : (links : List Link) (from to : List ℕ) → Room links → length from ≡ line_count → Settled links from to → Settles links from to
 unfolding Settles
-settled_settles links few from to room long settled s x i sound tied happens e =
+settled_settles links from to room long settled s x i sound tied happens e =
     let low = in_level s x happens in
     loop_done sound x i low (lowers_loop room long x i sound tied low e settled.lowers) (good_cut tied settled.whole)

@@ -14,15 +14,15 @@ use Rattle.demands.proofs.Removal.{in_level, back_under, sound_back}
 use Rattle.demands.proofs.Cut.{cut_below}
 use Rattle.demands.proofs.SearchNumbers.{Can, cuts_run}
 use Rattle.demands.proofs.SearchLoop.{Seeking, seek_start, seek_take, seek_done, seek_held}
-use Rattle.cuts.specs.declared.search.Descent.TheVariants.{Reaches, Stops}
-use Rattle.cuts.specs.declared.found.Found.TheVariants.{Nowhere, At}
+use Rattle.std.specs.Prelude.{Some, None}
 use Rattle.cuts.specs.Bounds.{line_count}
+use Rattle.cuts.specs.declared.link.Link.{Link}
 use Rattle.cuts.specs.Links.{line_number, cut_in, sum_of, Links}
 use Rattle.cuts.specs.Going.{Blocked, Free, FindsFree, FindsAbove, Ready, Foretells, foretells_done, foretells_held, Seeks}
 use Rattle.cuts.proofs.Lines.{line_of, at_line, cut_set, line_low, sum_set}
 use Rattle.cuts.proofs.LinkUndo.{blocked_not, free_can}
 
-module _ {links : List ℕ} {many : ℕ} {cut levels : List ℕ} {s : State} (sound : Sound s) (r : Ready s links many cut levels) where
+module _ {links : List Link} {cut levels : List ℕ} {s : State} (sound : Sound s) (r : Ready s links cut levels) where
   pub levels_same : cut_in levels ≡ level s
   levels_same = fun_ext r.levels_are.are
 
@@ -30,7 +30,7 @@ module _ {links : List ℕ} {many : ℕ} {cut levels : List ℕ} {s : State} (so
   cut_under y = subst (λ k. k y ≤ level s y) (sym r.cut_is) (cut_below sound r.line r.index (in_level s r.line r.happens) y)
 
 -- ---- one line
-module _ {links : List ℕ} {many x : ℕ} {cut lv : List ℕ} (f : Free links many cut lv x) (y : Series) (e : line_number y ≡ x) where
+module _ {links : List Link} {x : ℕ} {cut lv : List ℕ} (f : Free links cut lv x) (y : Series) (e : line_number y ≡ x) where
   pub free_top : cut_in lv y ≡ suc (get_or lv x 0 - 1)
   free_top = omega (arith, f.above, at_line lv y (sym e))
 
@@ -40,13 +40,12 @@ module _ {links : List ℕ} {many x : ℕ} {cut lv : List ℕ} (f : Free links m
   pub free_over : cut_in cut y < cut_in lv y
   free_over = omega (arith, f.above, at_line cut y (sym e), at_line lv y (sym e))
 
-  pub free_line : {s t : State} {few : ℕ} → Links s links few many → Sound t → Under t s → level t ≡ cut_in lv → Can s (cut_in lv) y
-  free_line linked t-sound under same = free_can linked t-sound under same y free_top (λ b. f.free (subst (λ n. Blocked links many n (get_or lv x 0 - 1) lv) e b))
+  pub free_line : {s t : State} {few : ℕ} → Links s links few → Sound t → Under t s → level t ≡ cut_in lv → Can s (cut_in lv) y
+  free_line linked t-sound under same = free_can linked t-sound under same y free_top (λ b. f.free (subst (λ n. Blocked links n (get_or lv x 0 - 1) lv) e b))
 
 -- no line is free: none above the cut can be undone
-pub none_free : {links : List ℕ} {many few : ℕ} (cut lv : List ℕ) {s : State} → Links s links few many → length lv ≡ line_count → FindsFree links many cut lv Nowhere
+pub none_free : {links : List Link} {few : ℕ} (cut lv : List ℕ) {s : State} → Links s links few → length lv ≡ line_count → FindsFree links cut lv None
     → (z : Series) → cut_in cut z < cut_in lv z → ¬ Can s (cut_in lv) z
-unfolding FindsFree
 none_free cut lv linked long none z h can =
     none (line_number z) (line_low lv z long h) (record {
       line = line_low lv z long h;
@@ -55,17 +54,17 @@ none_free cut lv linked long none z h can =
     })
 
 -- ---- the loop
-unfoldable pub Sought : (links : List ℕ) (many : ℕ) (cut levels lv : List ℕ) (n : ℕ) → Type 0
-Sought links many cut levels lv n = (s : State) → Sound s → Ready s links many cut levels → Seeking s (cut_in cut) (cut_in lv) n
+unfoldable pub Sought : (links : List Link) (cut levels lv : List ℕ) (n : ℕ) → Type 0
+Sought links cut levels lv n = (s : State) → Sound s → Ready s links cut levels → Seeking s (cut_in cut) (cut_in lv) n
 
-module _ (links : List ℕ) (many : ℕ) (cut levels : List ℕ) where
-  pub sought_start : Sought links many cut levels levels 0
+module _ (links : List Link) (cut levels : List ℕ) where
+  pub sought_start : Sought links cut levels levels 0
   unfolding Sought
   sought_start s sound r = subst (λ j. Seeking s (cut_in cut) j 0) (sym (levels_same sound r)) (seek_start (cut_under sound r))
 
-  module _ (lv : List ℕ) (n : ℕ) (long : length lv ≡ line_count) (sought : Sought links many cut levels lv n) where
-    pub sought_on : (x : ℕ) → FindsFree links many cut lv (At x) → Sought links many cut levels (set lv x (get_or lv x 0 - 1)) (n + 1)
-    unfolding Sought FindsFree
+  module _ (lv : List ℕ) (n : ℕ) (long : length lv ≡ line_count) (sought : Sought links cut levels lv n) where
+    pub sought_on : (x : ℕ) → FindsFree links cut lv (Some x) → Sought links cut levels (set lv x (get_or lv x 0 - 1)) (n + 1)
+    unfolding Sought
     sought_on x f s sound r =
         let (y, e) = line_of x in
         let c = get_or lv x 0 - 1 in
@@ -76,26 +75,25 @@ module _ (links : List ℕ) (many : ℕ) (cut levels : List ℕ) where
         let one : suc n ≡ n + 1 = omega arith in
         subst (λ m. Seeking s (cut_in cut) (cut_in (set lv x c)) m) one (subst (λ j. Seeking s (cut_in cut) j (suc n)) (sym (cut_set lv y c (sym e) (omega (arith, f.line, long)))) taken)
 
-    pub sought_less : (x : ℕ) → FindsFree links many cut lv (At x) → sum_of (set lv x (get_or lv x 0 - 1)) + 1 ≡ sum_of lv
-    unfolding FindsFree
+    pub sought_less : (x : ℕ) → FindsFree links cut lv (Some x) → sum_of (set lv x (get_or lv x 0 - 1)) + 1 ≡ sum_of lv
     sought_less x f = omega (arith, sum_set lv x (get_or lv x 0 - 1) (omega (arith, f.line, long)), f.above)
 
-    pub sought_done : FindsAbove cut lv Nowhere → Seeks links many cut levels (Reaches n)
-    unfolding Sought Seeks FindsAbove
+    pub sought_done : FindsAbove cut lv None → Seeks links cut levels (Some n)
+    unfolding Sought Seeks
     sought_done reached s sound r =
         let seeking = subst (λ k. Seeking s k (cut_in lv) n) r.cut_is (sought s sound r) in
         let (t, e) = seek_done sound r.line r.index r.happens seeking (λ y. at y (sought s sound r) (dec_lt (line_number y) line_count) ∙ ap (λ k. k y) r.cut_is) in
-        subst (λ b. Foretells b (Reaches n)) (sym (ap (undo_to s) r.cut_is ∙ e)) (foretells_done n t)
+        subst (λ b. Foretells b (Some n)) (sym (ap (undo_to s) r.cut_is ∙ e)) (foretells_done n t)
       where
         at : {s : State} (y : Series) → Seeking s (cut_in cut) (cut_in lv) n → Dec (line_number y < line_count) → cut_in lv y ≡ cut_in cut y
         at y seeking (yes h) = omega (arith, seeking.above y, reached (line_number y) h, at_line lv y refl, at_line cut y refl)
         at y seeking (no h) = elim (dec_lt (cut_in cut y) (cut_in lv y)) [ yes g ↦ absurd (h (line_low lv y long g)) | no g ↦ omega (arith, seeking.above y, g) ]
 
-    pub sought_held : (x : ℕ) → FindsFree links many cut lv Nowhere → FindsAbove cut lv (At x) → Seeks links many cut levels Stops
-    unfolding Sought Seeks FindsAbove
+    pub sought_held : (x : ℕ) → FindsFree links cut lv None → FindsAbove cut lv (Some x) → Seeks links cut levels None
+    unfolding Sought Seeks
     sought_held x none (low, above) s sound r =
         let (y, e) = line_of x in
         let seeking = subst (λ k. Seeking s k (cut_in lv) n) r.cut_is (sought s sound r) in
         let at : (z : Series) → cut_in cut z ≡ cut_before s (event r.line r.index) z = λ z. ap (λ k. k z) r.cut_is in
         let held_back = seek_held sound r.line r.index r.happens y seeking (omega (arith, above, at_line cut y (sym e), at_line lv y (sym e), at y)) (λ z h. none_free cut lv r.linked long none z (omega (arith, h, at z))) in
-        subst (λ b. Foretells b Stops) (sym (ap (undo_to s) r.cut_is ∙ held_back)) foretells_held
+        subst (λ b. Foretells b None) (sym (ap (undo_to s) r.cut_is ∙ held_back)) foretells_held

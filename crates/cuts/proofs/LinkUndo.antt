@@ -5,6 +5,7 @@ use mathlib.Core.Option.{Option, some}
 use mathlib.Core.List.{List}
 use native.Mathlib.Decide.{dec_lt}
 use native.Mathlib.Omega.{arith}
+use lib.ListN.{length}
 use Rattle.lists.proofs.Tests.{none_not_some, some_injective}
 use Rattle.rules.specs.State.{Message, Letter, letter, Taking, taking, Kind, seq, send, rec, spawn, self, check, as_send, as_rec, as_spawn, Entry, State}
 use Rattle.rules.specs.Flight.{sends}
@@ -19,6 +20,7 @@ use Rattle.demands.proofs.Event.{Under, low}
 use Rattle.demands.proofs.EventDepends.{stands_entry, stands_older, entry_here}
 use Rattle.demands.proofs.CutNumbers.{seen_low}
 use Rattle.demands.proofs.SearchNumbers.{Can, can_alone, can_send, can_rec, can_spawn, can_undeliver, stands_cut}
+use Rattle.cuts.specs.declared.link.Link.{Link}
 use Rattle.cuts.specs.Links.{line_number, cut_in, Ties, of_rec, of_since, of_send, of_child, of_mail, Aims, of_aim, Linked, Says, Links}
 use Rattle.cuts.specs.Going.{Blocks, Blocked}
 use Rattle.cuts.proofs.Lines.{at_line, same_line}
@@ -158,7 +160,7 @@ module _ {s : State} {k : Cut} where
   aim_stops : {x y : Series} {a b : ℕ} → Aims s x a y b → a < k x → k y ≡ suc b → Can s k y → ⊥
   aim_stops (of_aim {u} {j} {v = v} {f} {h = g} st' is' st is) h z c = omega (arith, h, (childless is (can_at st z c)).unsent u j v f g st' is')
 
-module _ {s : State} {links lv : List ℕ} {few many : ℕ} (linked : Links s links few many) where
+module _ {s : State} {links : List Link} {lv : List ℕ} {few : ℕ} (linked : Links s links few) where
   link_stops : {x : Series} {i k : ℕ} {Of : Series → ℕ → Series → ℕ → Type 0} → Says Of links k → Blocks links (line_number x) i lv k
       → ((y : Series) (a : ℕ) → Of y a x i → a < cut_in lv y → ⊥) → ⊥
   link_stops {x} {i} {k} {Of} says blocks f =
@@ -167,15 +169,15 @@ module _ {s : State} {links lv : List ℕ} {few many : ℕ} (linked : Links s li
       let index : says.second ≡ i = sym at.on_index_lem ∙ blocks.index in
       f says.from says.first (subst₂ (Of says.from says.first) line index says.holds) (omega (arith, blocks.stays, at.from_index_lem, at_line lv says.from at.from_line_lem))
 
-  pub blocked_not : (x : Series) {i : ℕ} → cut_in lv x ≡ suc i → Blocked links many (line_number x) i lv → Can s (cut_in lv) x → ⊥
+  pub blocked_not : (x : Series) {i : ℕ} → cut_in lv x ≡ suc i → Blocked links (line_number x) i lv → Can s (cut_in lv) x → ⊥
   blocked_not x {i} z b c = elim (dec_lt b.place few) [
     | yes h ↦ link_stops (linked.tied.each b.place h) b.blocks (λ y a t h. tie_stops t h z c)
     | no h ↦ link_stops (linked.each b.place (omega (arith, h)) b.below) b.blocks (λ y a t h. aim_stops t h z c)
   ]
 
   -- ---- where none is, it is
-  module _ {t : State} (t-sound : Sound t) (under : Under t s) (levels : level t ≡ cut_in lv) (x : Series) {i : ℕ} (z : cut_in lv x ≡ suc i) (free : ¬ Blocked links many (line_number x) i lv) where
-    unlinked : {y : Series} {a : ℕ} → Linked links many y a x i → cut_in lv y ≤ a
+  module _ {t : State} (t-sound : Sound t) (under : Under t s) (levels : level t ≡ cut_in lv) (x : Series) {i : ℕ} (z : cut_in lv x ≡ suc i) (free : ¬ Blocked links (line_number x) i lv) where
+    unlinked : {y : Series} {a : ℕ} → Linked links (length links) y a x i → cut_in lv y ≤ a
     unlinked {y} {a} l = elim (dec_lt a (cut_in lv y)) [
       | no h ↦ omega (arith, h)
       | yes h ↦ absurd (free (record {
@@ -198,7 +200,7 @@ module _ {s : State} {links lv : List ℕ} {few many : ℕ} (linked : Links s li
     still_seen {p} st is h = let low' = seen_low t-sound (stands_cut under st (omega (arith, h, at_level (entries_of p)))) is in omega (arith, low', at_level (deliveries_to p))
 
   module _ {t : State} (t-sound : Sound t) (under : Under t s) (levels : level t ≡ cut_in lv) where
-    entry_can : (p : ℕ) {i : ℕ} → cut_in lv (entries_of p) ≡ suc i → ¬ Blocked links many (line_number (entries_of p)) i lv → Can s (cut_in lv) (entries_of p)
+    entry_can : (p : ℕ) {i : ℕ} → cut_in lv (entries_of p) ≡ suc i → ¬ Blocked links (line_number (entries_of p)) i lv → Can s (cut_in lv) (entries_of p)
     entry_can p {i} z free =
         let (e, g, st) = entry_here s p i (omega (arith, z, low under (entries_of p), at_level t-sound under levels (entries_of p) z free (entries_of p))) in
         go e g st (sort e.kind)
@@ -215,7 +217,7 @@ module _ {s : State} {links lv : List ℕ} {few many : ℕ} (linked : Links s li
             (omega (arith, tie_free t-sound under levels (entries_of p) z free (of_mail st is)))
             λ u j v f h st' is'. aim_free t-sound under levels (entries_of p) z free (of_aim st' is' st is)
 
-    mail_can : (q : ℕ) {i : ℕ} → cut_in lv (deliveries_to q) ≡ suc i → ¬ Blocked links many (line_number (deliveries_to q)) i lv → Can s (cut_in lv) (deliveries_to q)
+    mail_can : (q : ℕ) {i : ℕ} → cut_in lv (deliveries_to q) ≡ suc i → ¬ Blocked links (line_number (deliveries_to q)) i lv → Can s (cut_in lv) (deliveries_to q)
     mail_can q {i} z free = can_undeliver z λ j a m d e g st is h.
         let all_seen = still_seen t-sound under levels (deliveries_to q) z free st is h in
         elim (dec_lt i (seen a m d g)) [
@@ -223,6 +225,6 @@ module _ {s : State} {links lv : List ℕ} {few many : ℕ} (linked : Links s li
           | yes n ↦ absurd (let u = tie_free t-sound under levels (deliveries_to q) z free (of_rec st is (omega (arith, n, all_seen, z))) in omega (arith, u, h))
         ]
 
-    pub free_can : (x : Series) {i : ℕ} → cut_in lv x ≡ suc i → ¬ Blocked links many (line_number x) i lv → Can s (cut_in lv) x
+    pub free_can : (x : Series) {i : ℕ} → cut_in lv x ≡ suc i → ¬ Blocked links (line_number x) i lv → Can s (cut_in lv) x
     free_can (entries_of p) z free = entry_can p z free
     free_can (deliveries_to q) z free = mail_can q z free

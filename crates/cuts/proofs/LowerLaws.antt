@@ -1,15 +1,15 @@
 -- Lowering a cut on numbers: each lowering is to the event of a torn link, and once every event that goes was looked at no link is torn.
-use Prim.Native.Nat.{ℕ, zero, suc, ◌+◌, ◌-◌, ◌≤◌, ◌<◌}
-use mathlib.Core.Path.{◌≡◌, refl, sym, ◌∙◌, ap, subst, subst₂}
+use Prim.Native.Nat.{ℕ, zero, suc, ◌+◌, ◌≤◌, ◌<◌}
+use mathlib.Core.Path.{◌≡◌, refl, sym, ◌∙◌, ap, subst}
 use mathlib.Core.List.{List, [], ◌∷◌}
 use native.Mathlib.Decide.{ℕ_discrete, dec_lt}
 use native.Mathlib.Omega.{arith}
 use lib.ListN.{length, get_or, set, length-set}
 use lib.Seq.{get_or-set_same, get_or-set_other}
 use Rattle.cuts.specs.Bounds.{line_count}
-use Rattle.cuts.specs.declared.found.Found.TheVariants.{Nowhere, At}
+use Rattle.std.specs.Prelude.{None}
 use Rattle.cuts.specs.declared.link.Link.{Link}
-use Rattle.cuts.specs.Links.{from_line, from_index, on_line, on_index, IsLink, LinkFits, Room, OnEvents}
+use Rattle.cuts.specs.Links.{from_line, from_index, on_line, on_index, LinkFits, Room, OnEvents}
 use Rattle.cuts.specs.Chains.{slot_count, slot_of, Chained, Indexed}
 use Rattle.cuts.specs.Going.{Tears, Passed, lower_to, LowersAt, kept, lowers, Lowers, stay, down, LowersOn, Settled, FindsAbove}
 use Rattle.cuts.proofs.ChainLaws.{chained_low, chained_next, chain_from}
@@ -22,7 +22,7 @@ set_under (n ∷ l) zero v h (suc x) = omega arith
 set_under (n ∷ l) (suc i) v h zero = omega arith
 set_under (n ∷ l) (suc i) v h (suc x) = set_under l i v h x
 
-module _ (links : List ℕ) (k : ℕ) where
+module _ (links : List Link) (k : ℕ) where
   to_long : (cut : List ℕ) → length (lower_to links k cut) ≡ length cut
   unfolding lower_to
   to_long cut = length-set cut (from_line links k) (from_index links k)
@@ -36,12 +36,12 @@ module _ (links : List ℕ) (k : ℕ) where
   to_passed cut h = omega (arith, get_or-set_same cut (from_line links k) (from_index links k) 0 h)
 
   -- what the code writes
-  pub lower_torn : (cut : List ℕ) (l : Link) → IsLink links k l → Tears links cut k → LowersAt links k cut (set cut l.line l.index)
+  pub lower_torn : (cut : List ℕ) → Tears links cut k → LowersAt links k cut (set cut (from_line links k) (from_index links k))
   unfolding lower_to
-  lower_torn cut l is t = subst₂ (λ x a. LowersAt links k cut (set cut x a)) (sym is.line) (sym is.index) (lowers t)
+  lower_torn cut t = lowers t
 
 -- ---- one link
-module _ {links : List ℕ} {k : ℕ} {before after : List ℕ} (at : LowersAt links k before after) where
+module _ {links : List Link} {k : ℕ} {before after : List ℕ} (at : LowersAt links k before after) where
   at_long : length after ≡ length before
   at_long = go at
     where
@@ -63,48 +63,40 @@ module _ {links : List ℕ} {k : ℕ} {before after : List ℕ} (at : LowersAt l
       go (kept n) = elim (dec_lt (from_index links k) (get_or before (from_line links k) 0)) [ yes h ↦ absurd (n (record { stays = h; goes = gone })) | no h ↦ omega (arith, h) ]
       go (lowers t) = to_passed links k before (omega (arith, fits.from_line_lem, long))
 
-  at_more : {from : List ℕ} {count : ℕ} → k < count → Lowers links count from before → Lowers links count from after
-  at_more {from} {count} h l = go at
+  at_more : {from : List ℕ} → k < length links → Lowers links from before → Lowers links from after
+  at_more {from} h l = go at
     where
-      go : {after : List ℕ} → LowersAt links k before after → Lowers links count from after
+      go : {after : List ℕ} → LowersAt links k before after → Lowers links from after
       go (kept n) = l
       go (lowers t) = down l h t
 
--- ---- a line that was found
-pub under_top : (a b : ℕ) → a < b → a ≤ b - 1
-under_top a b h = omega arith
-
-pub above_found : (cut level : List ℕ) (x : ℕ) → FindsAbove cut level (At x) → (x < line_count) × (get_or cut x 0 < get_or level x 0)
-unfolding FindsAbove
-above_found cut level x f = f
-
 -- ---- many
-module _ {links : List ℕ} {count : ℕ} where
-  pub lowers_long : {from to : List ℕ} → Lowers links count from to → length to ≡ length from
+module _ {links : List Link} where
+  pub lowers_long : {from to : List ℕ} → Lowers links from to → length to ≡ length from
   lowers_long stay = refl
   lowers_long (down {cut} {k} l h t) = to_long links k cut ∙ lowers_long l
 
-  lowers_under : {from to : List ℕ} → Lowers links count from to → (x : ℕ) → get_or to x 0 ≤ get_or from x 0
+  lowers_under : {from to : List ℕ} → Lowers links from to → (x : ℕ) → get_or to x 0 ≤ get_or from x 0
   lowers_under stay x = omega arith
   lowers_under (down {cut} {k} l h t) x = omega (arith, to_under links k cut t x, lowers_under l x)
 
-  lowers_on : {from mid to : List ℕ} → Lowers links count from mid → Lowers links count mid to → Lowers links count from to
+  lowers_on : {from mid to : List ℕ} → Lowers links from mid → Lowers links mid to → Lowers links from to
   lowers_on l stay = l
   lowers_on l (down r h t) = down (lowers_on l r) h t
 
 -- ---- the links on one event
-pub record LoweringOn (links : List ℕ) (count : ℕ) (index : List ℕ) (y i : ℕ) (before cut : List ℕ) (j : ℕ) : Type 0 where
+pub record LoweringOn (links : List Link) (index : List ℕ) (y i : ℕ) (before cut : List ℕ) (j : ℕ) : Type 0 where
   pub long : length cut ≡ line_count
-  pub so_far : Lowers links count before cut
+  pub so_far : Lowers links before cut
   pub gone : get_or cut y 0 ≤ i
-  pub left : (k : ℕ) → k < count → on_line links k ≡ y → on_index links k ≡ i → from_index links k < get_or cut (from_line links k) 0 → Chained index j k
+  pub left : (k : ℕ) → k < length links → on_line links k ≡ y → on_index links k ≡ i → from_index links k < get_or cut (from_line links k) 0 → Chained index j k
 
-module _ (links : List ℕ) (count : ℕ) (index : List ℕ) (y i : ℕ) (before : List ℕ) where
-  pub on_start : (s : ℕ) → length before ≡ line_count → Indexed links 0 count index → s ≡ slot_of y i → get_or before y 0 ≤ i → LoweringOn links count index y i before before (get_or index s 0)
-  on_start s long indexed at gone = record { long = long; so_far = stay; gone = gone; left = λ k h e f stays. chain_from links index count y i s indexed at k h e f }
+module _ (links : List Link) (index : List ℕ) (y i : ℕ) (before : List ℕ) where
+  pub on_start : (s : ℕ) → length before ≡ line_count → Indexed links 0 index → s ≡ slot_of y i → get_or before y 0 ≤ i → LoweringOn links index y i before before (get_or index s 0)
+  on_start s long indexed at gone = record { long = long; so_far = stay; gone = gone; left = λ k h e f stays. chain_from links index y i s indexed at k h e f }
 
-  module _ (cut : List ℕ) (j : ℕ) (room : Room links count) (below : j < count) (lowering : LoweringOn links count index y i before cut j) where
-    pub on_next : (after : List ℕ) → LowersAt links j cut after → LoweringOn links count index y i before after (get_or index (slot_count + j) 0)
+  module _ (cut : List ℕ) (j : ℕ) (room : Room links) (below : j < length links) (lowering : LoweringOn links index y i before cut j) where
+    pub on_next : (after : List ℕ) → LowersAt links j cut after → LoweringOn links index y i before after (get_or index (slot_count + j) 0)
     on_next after at = record {
       long = at_long at ∙ lowering.long;
       so_far = at_more at below lowering.so_far;
@@ -118,25 +110,25 @@ module _ (links : List ℕ) (count : ℕ) (index : List ℕ) (y i : ℕ) (before
             let p : Passed links after k = subst (λ z. Passed links after z) same (at_passed at (room.each j below) lowering.long (subst (λ z. get_or cut (on_line links z) 0 ≤ on_index links z) (sym same) here_gone)) in
             omega (arith, p, stays)
 
-  pub on_done : (cut : List ℕ) (j : ℕ) → count ≤ j → LoweringOn links count index y i before cut j → LowersOn links count y i before cut
+  pub on_done : (cut : List ℕ) (j : ℕ) → length links ≤ j → LoweringOn links index y i before cut j → LowersOn links y i before cut
   on_done cut j past lowering = record {
     lowers = lowering.so_far;
     passed = λ k h e f. elim (dec_lt (from_index links k) (get_or cut (from_line links k) 0)) [ yes stays ↦ absurd (let l = chained_low (lowering.left k h e f stays) in omega (arith, l, h, past)) | no n ↦ omega (arith, n) ];
   }
 
 -- ---- all of them: `left` says down to which event of each line they were looked at
-pub record Settling (links : List ℕ) (count : ℕ) (from cut left : List ℕ) : Type 0 where
+pub record Settling (links : List Link) (from cut left : List ℕ) : Type 0 where
   pub long : length cut ≡ line_count
   pub left_long : length left ≡ line_count
-  pub so_far : Lowers links count from cut
-  pub passed : (k : ℕ) → k < count → get_or left (on_line links k) 0 ≤ on_index links k → Passed links cut k
+  pub so_far : Lowers links from cut
+  pub passed : (k : ℕ) → k < length links → get_or left (on_line links k) 0 ≤ on_index links k → Passed links cut k
 
-module _ (links : List ℕ) (count : ℕ) (from : List ℕ) where
-  pub settling_start : (levels : List ℕ) → length from ≡ line_count → length levels ≡ line_count → OnEvents links count levels → Settling links count from from levels
+module _ (links : List Link) (from : List ℕ) where
+  pub settling_start : (levels : List ℕ) → length from ≡ line_count → length levels ≡ line_count → OnEvents links levels → Settling links from from levels
   settling_start levels long levels-long on = record { long = long; left_long = levels-long; so_far = stay; passed = λ k h g. absurd (omega (arith, g, on.each k h)) }
 
-  module _ (cut left : List ℕ) (settling : Settling links count from cut left) (y : ℕ) (line : y < line_count) where
-    pub settling_next : (i : ℕ) (after : List ℕ) → get_or left y 0 ≡ i + 1 → LowersOn links count y i cut after → Settling links count from after (set left y i)
+  module _ (cut left : List ℕ) (settling : Settling links from cut left) (y : ℕ) (line : y < line_count) where
+    pub settling_next : (i : ℕ) (after : List ℕ) → get_or left y 0 ≡ i + 1 → LowersOn links y i cut after → Settling links from after (set left y i)
     settling_next i after top on = record {
       long = lowers_long on.lowers ∙ settling.long;
       left_long = length-set left y i ∙ settling.left_long;
@@ -144,18 +136,11 @@ module _ (links : List ℕ) (count : ℕ) (from : List ℕ) where
       passed = λ k h g. step k h g (ℕ_discrete (on_line links k) y);
     }
       where
-        before : (k : ℕ) → k < count → get_or left (on_line links k) 0 ≤ on_index links k → Passed links after k
+        before : (k : ℕ) → k < length links → get_or left (on_line links k) 0 ≤ on_index links k → Passed links after k
         before k h g = omega (arith, settling.passed k h g, lowers_under on.lowers (from_line links k))
 
-        step : (k : ℕ) → k < count → get_or (set left y i) (on_line links k) 0 ≤ on_index links k → Dec (on_line links k ≡ y) → Passed links after k
+        step : (k : ℕ) → k < length links → get_or (set left y i) (on_line links k) 0 ≤ on_index links k → Dec (on_line links k ≡ y) → Passed links after k
         step k h g (no n) = before k h (omega (arith, g, get_or-set_other left y (on_line links k) i 0 n))
         step k h g (yes e) =
             let over : i ≤ on_index links k = omega (arith, g, ap (λ z. get_or (set left y i) z 0) e, get_or-set_same left y i 0 (omega (arith, line, settling.left_long))) in
             elim (ℕ_discrete (on_index links k) i) [ yes f ↦ on.passed k h e f | no n ↦ before k h (omega (arith, over, n, ap (λ z. get_or left z 0) e, top)) ]
-
-  pub settling_done : (cut left : List ℕ) → Room links count → Settling links count from cut left → FindsAbove cut left Nowhere → Settled links count from cut
-  unfolding FindsAbove
-  settling_done cut left room settling none = record {
-    lowers = settling.so_far;
-    whole = λ k h t. (let p = settling.passed k h (omega (arith, none (on_line links k) (room.each k h).on_line_lem, t.goes)) in omega (arith, p, t.stays));
-  }

@@ -20,10 +20,6 @@ links_of_sort = most_places * links_of_place
 abbrev pub most_links : ℕ
 most_links = 2 * links_of_sort
 
--- a link is four numbers
-abbrev pub link_size : ℕ
-link_size = 4
-
 -- a queue holds no more messages than there are entries that could have sent them
 abbrev pub most_queued : ℕ
 most_queued = most_places * most_entries

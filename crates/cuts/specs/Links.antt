@@ -1,12 +1,11 @@
 -- The numbers that a rollback goes by: how many events each line has, and which event depends at once on which.
-use Rattle.std.specs.Prelude.{ℕ, suc, ◌+◌, ◌*◌, ◌≤◌, ◌<◌, ◌≡◌, List, [], ◌∷◌, length, get_or, set}
+use Rattle.std.specs.Prelude.{ℕ, suc, ◌+◌, ◌*◌, ◌≤◌, ◌<◌, ◌≡◌, List, [], ◌∷◌, length, get_or}
 use Rattle.std.proofs.Math.Option.{some}
 use Rattle.rules.specs.State.{Message, letter, taking, as_send, as_rec, as_spawn, Entry, State}
 use Rattle.rules.specs.Flight.{sends}
 use Rattle.rules.specs.Depends.{Series, entries_of, deliveries_to, level}
 use Rattle.rules.specs.Standing.{Stands, Arrives, seen}
 use Rattle.rules.specs.Rollback.{Cut}
-pub use Rattle.cuts.specs.Bounds.{link_size}
 use Rattle.cuts.specs.Bounds.{line_count, most_links, most_events}
 use Rattle.cuts.specs.declared.link.Link.{Link}
 
@@ -49,43 +48,38 @@ pub data Aims (s : State) : Series → ℕ → Series → ℕ → Type 0 where
   of_aim : {u j p i q : ℕ} {v : List ℕ} {f e : Entry} {h g : List Entry} → Stands s u j f h → as_send f.kind ≡ some (letter q v) → Stands s p i e g → as_spawn e.kind ≡ some q
       → Aims s (entries_of u) j (entries_of p) i
 
--- a link is four numbers: an event, by its line and its number there, and the event that it depends on
-abbrev pub from_line : (links : List ℕ) (k : ℕ) → ℕ
-from_line links k = get_or links (link_size * k) 0
+-- past the links of a list stand links of zeros
+abbrev pub no_link : Link
+no_link = record { event = record { line = 0; index = 0 }; on = record { line = 0; index = 0 } }
 
-abbrev pub from_index : (links : List ℕ) (k : ℕ) → ℕ
-from_index links k = get_or links (link_size * k + 1) 0
+-- link k is of an event, by its line and its number there, and on the event that it depends on
+abbrev pub from_line : (links : List Link) (k : ℕ) → ℕ
+from_line links k = (get_or links k no_link).event.line
 
-abbrev pub on_line : (links : List ℕ) (k : ℕ) → ℕ
-on_line links k = get_or links (link_size * k + 2) 0
+abbrev pub from_index : (links : List Link) (k : ℕ) → ℕ
+from_index links k = (get_or links k no_link).event.index
 
-abbrev pub on_index : (links : List ℕ) (k : ℕ) → ℕ
-on_index links k = get_or links (link_size * k + 3) 0
+abbrev pub on_line : (links : List Link) (k : ℕ) → ℕ
+on_line links k = (get_or links k no_link).on.line
 
-pub record IsLink (links : List ℕ) (k : ℕ) (link : Link) : Type 0 where
-  pub line : link.line ≡ from_line links k
-  pub index : link.index ≡ from_index links k
-  pub on_line_lem : link.on ≡ on_line links k
-  pub on_index_lem : link.at ≡ on_index links k
-
-unfoldable pub put_link : (links : List ℕ) (k x a y b : ℕ) → List ℕ
-put_link links k x a y b = set (set (set (set links (link_size * k) x) (link_size * k + 1) a) (link_size * k + 2) y) (link_size * k + 3) b
+abbrev pub on_index : (links : List Link) (k : ℕ) → ℕ
+on_index links k = (get_or links k no_link).on.index
 
 -- event a of line x depends on event b of line y
-pub record LinkAt (links : List ℕ) (k : ℕ) (x : Series) (a : ℕ) (y : Series) (b : ℕ) : Type 0 where
+pub record LinkAt (links : List Link) (k : ℕ) (x : Series) (a : ℕ) (y : Series) (b : ℕ) : Type 0 where
   pub from_line_lem : from_line links k ≡ line_number x
   pub from_index_lem : from_index links k ≡ a
   pub on_line_lem : on_line links k ≡ line_number y
   pub on_index_lem : on_index links k ≡ b
 
 -- one of the first so many links
-pub record Linked (links : List ℕ) (count : ℕ) (x : Series) (a : ℕ) (y : Series) (b : ℕ) : Type 0 where
+pub record Linked (links : List Link) (count : ℕ) (x : Series) (a : ℕ) (y : Series) (b : ℕ) : Type 0 where
   pub place : ℕ
   pub below : place < count
   pub is : LinkAt links place x a y b
 
 -- link number k is one of these
-pub record Says (Of : Series → ℕ → Series → ℕ → Type 0) (links : List ℕ) (k : ℕ) : Type 0 where
+pub record Says (Of : Series → ℕ → Series → ℕ → Type 0) (links : List Link) (k : ℕ) : Type 0 where
   pub from : Series
   pub first : ℕ
   pub on : Series
@@ -94,32 +88,30 @@ pub record Says (Of : Series → ℕ → Series → ℕ → Type 0) (links : Lis
   pub holds : Of from first on second
 
 -- the first so many links are 01's list
-pub record Tied (s : State) (links : List ℕ) (few : ℕ) : Type 0 where
+pub record Tied (s : State) (links : List Link) (few : ℕ) : Type 0 where
   pub each : (k : ℕ) → k < few → Says (Ties s) links k
   pub all : (x : Series) (a : ℕ) (y : Series) (b : ℕ) → Ties s x a y b → Linked links few x a y b
 
 -- and with those that follow, all that undoing asks
-pub record Links (s : State) (links : List ℕ) (few many : ℕ) : Type 0 where
-  pub long : link_size * many ≤ length links
-  pub most : many ≤ most_links
-  pub fewer : few ≤ many
+pub record Links (s : State) (links : List Link) (few : ℕ) : Type 0 where
+  pub most : length links ≤ most_links
+  pub fewer : few ≤ length links
   pub tied : Tied s links few
-  pub each : (k : ℕ) → few ≤ k → k < many → Says (Aims s) links k
-  pub all : (x : Series) (a : ℕ) (y : Series) (b : ℕ) → Aims s x a y b → Linked links many x a y b
+  pub each : (k : ℕ) → few ≤ k → k < length links → Says (Aims s) links k
+  pub all : (x : Series) (a : ℕ) (y : Series) (b : ℕ) → Aims s x a y b → Linked links (length links) x a y b
 
--- ---- what the code needs of the numbers themselves
+-- ---- what the code needs of the links themselves
 
 -- link k lies in the list, and its lines are lines of places
-pub record LinkFits (links : List ℕ) (k : ℕ) : Type 0 where
-  pub long : link_size * k + link_size ≤ length links
+pub record LinkFits (links : List Link) (k : ℕ) : Type 0 where
+  pub low : k < length links
   pub from_line_lem : from_line links k < line_count
   pub on_line_lem : on_line links k < line_count
 
-pub record Room (links : List ℕ) (count : ℕ) : Type 0 where
-  pub long : link_size * count ≤ length links
-  pub most : count ≤ most_links
-  pub each : (k : ℕ) → k < count → LinkFits links k
+pub record Room (links : List Link) : Type 0 where
+  pub most : length links ≤ most_links
+  pub each : (k : ℕ) → k < length links → LinkFits links k
 
 -- what the links are on has happened
-pub record OnEvents (links : List ℕ) (count : ℕ) (levels : List ℕ) : Type 0 where
-  pub each : (k : ℕ) → k < count → on_index links k < get_or levels (on_line links k) 0
+pub record OnEvents (links : List Link) (levels : List ℕ) : Type 0 where
+  pub each : (k : ℕ) → k < length links → on_index links k < get_or levels (on_line links k) 0

@@ -14,17 +14,13 @@ const LINKS_EACH: usize = 2;
 
 pub const LINKS: usize = SORTS * LINKS_EACH * NAMES_ROOM;
 
-// A link is four numbers.
-pub const LINK_SIZE: usize = 4;
-
-pub const LINKS_ROOM: usize = LINK_SIZE * LINKS;
-
 // An index of links has a slot for each entry that a place can have, for each line, and then a number for each link.
 pub const SLOTS_EACH: usize = NAMES_ROOM / PLACES_ROOM;
 
 pub const SLOTS: usize = LINES * SLOTS_EACH;
 
+// One array for heads and nexts, since the memory is fixed and `Indexed` speaks of one list.
 pub const INDEX_ROOM: usize = SLOTS + LINKS;
 
-// What ends a chain of links.
+// What ends a chain of links; an `Option<u16>` would take twice the room, and `Indexed` speaks of numbers.
 pub const NO_LINK: u16 = LINKS as u16;

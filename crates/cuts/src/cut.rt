@@ -8,109 +8,80 @@ ghost use Rattle.cuts.specs.Going.{Tears, FindsAbove, LowersAt, LowersOn, Settle
 
 use crate::bounds::{INDEX_ROOM, LINES, NO_LINK, SLOTS};
 use crate::chains::{index_links, slot};
-use crate::found::Found;
-use crate::link::link_at;
+use crate::events::Event;
+use crate::link::Link;
 
 // Whether a cut tears a link: its event stays, and what it depends on goes.
-fn tears(links: &[usize], k: usize, cut: &[usize; LINES]) -> bool
+fn tears(links: &[Link], k: usize, cut: &[usize; LINES]) -> bool
     requires { LinkFits links.now k }
     ensures { Decides (Tears links.now cut.now k) result }
 {
-    let link = link_at(links, k);
-    let x = link.line;
-    if cut[x] <= link.index {
-        return false;
-    }
-    let y = link.on;
-    if link.at < cut[y] {
-        return false;
-    }
-    true
+    let link = links[k];
+    link.event.index < cut[link.event.line] && cut[link.on.line] <= link.on.index
 }
 
 // The cut that tears link k is lowered to its event.
-fn lower(links: &[usize], k: usize, cut: &mut [usize; LINES])
+fn lower(links: &[Link], k: usize, cut: &mut [usize; LINES])
     requires { LinkFits links.now k }
     ensures { LowersAt links.now k cut.old cut.new }
 {
-    if !tears(links, k, cut) {
-        return;
+    if tears(links, k, cut) {
+        let event = links[k].event;
+        cut[event.line] = event.index;
     }
-    let link = link_at(links, k);
-    let x = link.line;
-    cut[x] = link.index;
 }
 
-// All links on event i of line y, which goes.
-fn lower_on(
-    links: &[usize],
-    count: usize,
-    index: &[u16; INDEX_ROOM],
-    y: usize,
-    i: usize,
-    cut: &mut [usize; LINES],
-)
-    requires { Room links.now count × Indexed links.now 0 count index.now × (y < line_count) × (get_or cut.old y 0 ≤ i) × (length cut.old ≡ line_count) }
-    ensures { LowersOn links.now count y i cut.old cut.new }
+// All links on an event, which goes.
+fn lower_on(links: &[Link], index: &[u16; INDEX_ROOM], event: Event, cut: &mut [usize; LINES])
+    requires { Room links.now × Indexed links.now 0 index.now × (event.line < line_count) × (get_or cut.old event.line 0 ≤ event.index) × (length cut.old ≡ line_count) }
+    ensures { LowersOn links.now event.line event.index cut.old cut.new }
 {
-    let mut k = index[slot(y, i)] as usize;
-    while k < count {
+    let mut k = index[slot(event)] as usize;
+    while k < links.len() {
         lower(links, k, cut);
         k = index[SLOTS + k] as usize;
     }
 }
 
 // The first line that stands above a cut.
-pub fn above(cut: &[usize; LINES], level: &[usize; LINES]) -> Found
+pub fn above(cut: &[usize; LINES], level: &[usize; LINES]) -> Option<usize>
     ensures { FindsAbove cut.now level.now result }
 {
-    let mut x = 0;
-    while x < LINES {
+    for x in 0..LINES {
         if cut[x] < level[x] {
-            return Found::At(x);
+            return Some(x);
         }
-        x += 1;
     }
-    Found::Nowhere
+    None
 }
 
 // The cut lowered until it tears no link; each event that goes is looked at once.
 fn lowered(
-    links: &[usize],
-    count: usize,
+    links: &[Link],
     index: &[u16; INDEX_ROOM],
     levels: &[usize; LINES],
     cut: &mut [usize; LINES],
 )
-    requires { Room links.now count × OnEvents links.now count levels.now × Indexed links.now 0 count index.now × (length levels.now ≡ line_count) × (length cut.old ≡ line_count) }
-    ensures { Settled links.now count cut.old cut.new }
+    requires { Room links.now × OnEvents links.now levels.now × Indexed links.now 0 index.now × (length levels.now ≡ line_count) × (length cut.old ≡ line_count) }
+    ensures { Settled links.now cut.old cut.new }
 {
     let mut left = *levels;
-    loop {
-        let Found::At(y) = above(cut, &left) else {
-            return;
-        };
+    while let Some(y) = above(cut, &left) {
         let i = left[y] - 1;
         left[y] = i;
-        lower_on(links, count, index, y, i, cut);
+        lower_on(links, index, Event { line: y, index: i }, cut);
     }
 }
 
-// The cut that takes off event i of line x with all that depend on it.
-pub fn settled(
-    links: &[usize],
-    count: usize,
-    levels: &[usize; LINES],
-    x: usize,
-    i: usize,
-) -> [usize; LINES]
-    requires { Room links.now count × OnEvents links.now count levels.now × (x < line_count) × (length levels.now ≡ line_count) }
-    ensures { Settles links.now count (set levels.now x i) result }
+// The cut that takes off an event with all that depend on it.
+pub fn settled(links: &[Link], levels: &[usize; LINES], event: Event) -> [usize; LINES]
+    requires { Room links.now × OnEvents links.now levels.now × (event.line < line_count) × (length levels.now ≡ line_count) }
+    ensures { Settles links.now (set levels.now event.line event.index) result }
 {
     let mut index = [NO_LINK; INDEX_ROOM];
-    index_links(links, count, &mut index);
+    index_links(links, &mut index);
     let mut cut = *levels;
-    cut[x] = i;
-    lowered(links, count, &index, levels, &mut cut);
+    cut[event.line] = event.index;
+    lowered(links, &index, levels, &mut cut);
     cut
 }

@@ -5,7 +5,7 @@ ghost use Rattle.cuts.specs.Bounds.{most_places};
 ghost use Rattle.cuts.specs.Links.{line_number};
 
 // Event `index` of line `line`.
-#[derive(Clone, Copy)]
+#[derive(Clone, Copy, Default, PartialEq, Eq)]
 pub struct Event {
     pub line: usize,
     pub index: usize,
@@ -25,6 +25,28 @@ pub fn deliveries_line(p: usize) -> usize
     ensures { result ≡ line_number (deliveries_to p) }
 {
     2 * p + 1
+}
+
+// Entry i of p.
+pub fn entry(p: usize, i: usize) -> Event
+    requires { p < most_places }
+    ensures { result ≡ (record { line = line_number (entries_of p); index = i }) }
+{
+    Event {
+        line: entries_line(p),
+        index: i,
+    }
+}
+
+// Arrival j at p.
+pub fn delivery(p: usize, j: usize) -> Event
+    requires { p < most_places }
+    ensures { result ≡ (record { line = line_number (deliveries_to p); index = j }) }
+{
+    Event {
+        line: deliveries_line(p),
+        index: j,
+    }
 }
 
 // Whether a line is one of entries.

@@ -5,6 +5,5 @@ pub mod bounds;
 pub mod chains;
 pub mod cut;
 pub mod events;
-pub mod found;
 pub mod link;
 pub mod search;

@@ -1,11 +1,13 @@
 -- A delivery: 11 where there is no such message in flight, else it comes to the end of its target's queue, which has room.
+use Rattle.std.proofs.Common.{Option, None, Some}
 use Prim.Native.Nat.{ℕ, ◌+◌, ◌*◌, ◌<◌}
 use mathlib.Core.Path.{◌≡◌, refl, sym, ◌∙◌, ap, subst}
 use mathlib.Core.Bool.{Bool, true, false, not, ◌&&◌}
-use mathlib.Core.Option.{Option, none, some}
+use mathlib.Core.Option.{Option as Maybe, none, some}
 use mathlib.Core.List.{List, [], ◌∷◌, ◌++◌}
 use native.Mathlib.Omega.{arith}
 use lib.ListN.{length, length-append}
+use Rattle.std.specs.Prelude.{Ok, Err}
 use Rattle.lists.proofs.Tables.{put_same}
 use Rattle.rules.specs.Answers.{no_message}
 use Rattle.rules.specs.State.{Message, Letter, letter, Process, State, history_of, history_at, in_pool}
@@ -18,45 +20,42 @@ use Rattle.demands.proofs.Consequences.{consequences}
 use Rattle.store.specs.Image.{IsImage}
 use Rattle.store.proofs.SoundStates.{sizes_in_lem, in_places, numbered, storable}
 use Rattle.store.proofs.Names.{Numbered}
-use Rattle.calls.specs.Numbers.{number_of, value_of}
-use Rattle.calls.specs.declared.answers.Answer.{Answer}
-use Rattle.calls.specs.declared.answers.Answer.TheVariants.{Done, NoMessage}
+use Rattle.calls.specs.Numbers.{Answer, number_of, value_of}
+use Rattle.calls.specs.declared.answers.Refusal.TheVariants.{NoMessage}
 use Rattle.store.specs.Layout.{name_base}
 use Rattle.reading.specs.Reads.{Holds, OfState, IsPlace, OfSend, IsSend, SendAt, SendFound}
 use Rattle.reading.proofs.Naming.{sender_of, count_of, name_sender, name_count}
 use Rattle.reading.proofs.MailReads.{found_at}
-use Rattle.reading.specs.declared.found.Found.{Found}
-use Rattle.reading.specs.declared.found.Found.TheVariants.{Nowhere, At}
 use Rattle.writing.specs.Writes.{Leads, Posts, CanPost}
 use Rattle.calls.specs.Answering.{Answers, Does}
 use Rattle.calls.proofs.Answering.{obeys_done, does_refused}
 
-deliver_runs : (st : State) (s k : ℕ) {o : Option Letter} → sent (history_at st s) k ≡ o → run (deliver s k) st ≡ delivering st s k o
+deliver_runs : (st : State) (s k : ℕ) {o : Maybe Letter} → sent (history_at st s) k ≡ o → run (deliver s k) st ≡ delivering st s k o
 unfolding run
 deliver_runs st s k e = ap (delivering st s k) e
 
 -- no send of that count
 module _ (entry : List ℕ) (s k : ℕ) where
-  unsent : (st : State) (rest : List ℕ) → Holds entry st rest → sent (history_at st s) k ≡ none → (r : Answer) → r ≡ NoMessage → run (deliver s k) st ≡ refuse (number_of r)
+  unsent : (st : State) (rest : List ℕ) → Holds entry st rest → sent (history_at st s) k ≡ none → (r : Answer) → r ≡ (Err NoMessage) → run (deliver s k) st ≡ refuse (number_of r)
   unfolding delivering number_of
   unsent st rest h e r is = deliver_runs st s k e ∙ ap (λ (x : Answer). refuse (number_of x)) (sym is)
 
-  pub deliver_outside : (b : Bool) → OfState entry (λ st. b ≡ in_pool st s) → b ≡ false → Does (deliver s k) entry entry NoMessage
+  pub deliver_outside : (b : Bool) → OfState entry (λ st. b ≡ in_pool st s) → b ≡ false → Does (deliver s k) entry entry (Err NoMessage)
   unfolding OfState history_at history_of sent value_of
-  deliver_outside b pool e = does_refused (deliver s k) entry NoMessage refl (λ st rest h.
-      unsent st rest h (ap (λ (o : Option Process). sent (history_of o) k) (no_process_lem st s (sym (pool st rest h) ∙ e))) NoMessage refl)
+  deliver_outside b pool e = does_refused (deliver s k) entry (Err NoMessage) refl (λ st rest h.
+      unsent st rest h (ap (λ (o : Maybe Process). sent (history_of o) k) (no_process_lem st s (sym (pool st rest h) ∙ e))) (Err NoMessage) refl)
 
   pub sender_lives : (b : Bool) → OfState entry (λ st. b ≡ in_pool st s) → b ≡ true → OfState entry (IsPlace s)
   unfolding OfState
   sender_lives b pool e st rest h = in_places st h.sound s (sym (pool st rest h) ∙ e)
 
-  module _ (f : Found) (found : OfState entry (λ st. SendFound (history_at st s) k f)) where
-    pub deliver_nowhere : f ≡ Nowhere → Does (deliver s k) entry entry NoMessage
+  module _ (f : Option ℕ) (found : OfState entry (λ st. SendFound (history_at st s) k f)) where
+    pub deliver_nowhere : f ≡ None → Does (deliver s k) entry entry (Err NoMessage)
     unfolding OfState SendFound value_of
-    deliver_nowhere e = does_refused (deliver s k) entry NoMessage refl (λ st rest h.
-        unsent st rest h (subst (SendFound (history_at st s) k) e (found st rest h)) NoMessage refl)
+    deliver_nowhere e = does_refused (deliver s k) entry (Err NoMessage) refl (λ st rest h.
+        unsent st rest h (subst (SendFound (history_at st s) k) e (found st rest h)) (Err NoMessage) refl)
 
-    pub deliver_found : (i : ℕ) → f ≡ At i → OfState entry (SendAt s k i)
+    pub deliver_found : (i : ℕ) → f ≡ Some i → OfState entry (SendAt s k i)
     unfolding OfState
     deliver_found i e st rest h = found_at st s k i (subst (SendFound (history_at st s) k) e (found st rest h))
 
@@ -123,9 +122,9 @@ module _ (entry : List ℕ) (s k i : ℕ) (IsSend-at : OfState entry (SendAt s k
           deliver_runs st s k ((the_send st rest h).is_kth ∙ ap (λ (x : ℕ). some (letter x (the_send st rest h).value)) (sym (target_is st rest h)))
           ∙ ap (λ (x : Bool). need x no_message (accept (delivers s k t) (post t (st.queues t ++ (message_of s k (the_send st rest h).value ∷ []))))) (flies_is st rest h)
 
-      pub deliver_come : b ≡ true → Does (deliver s k) entry entry NoMessage
+      pub deliver_come : b ≡ true → Does (deliver s k) entry entry (Err NoMessage)
       unfolding need number_of value_of
-      deliver_come e = does_refused (deliver s k) entry NoMessage refl (λ st rest h.
+      deliver_come e = does_refused (deliver s k) entry (Err NoMessage) refl (λ st rest h.
           runs st rest h ∙ ap (λ (x : Bool). need (not x) no_message (accept (delivers s k t) (post t (st.queues t ++ (message_of s k (the_send st rest h).value ∷ []))))) e)
 
       accepted : b ≡ false → (st : State) (rest : List ℕ) (h : Holds entry st rest)
@@ -147,7 +146,7 @@ module _ (entry : List ℕ) (s k i : ℕ) (IsSend-at : OfState entry (SendAt s k
             has_room = omega (arith, fits, ap length longer, length-append (st.queues t) (m ∷ []));
           }
 
-      pub deliver_does : (exit : List ℕ) → b ≡ false → Leads entry exit (Posts t name) → Does (deliver s k) entry exit (Done 0)
+      pub deliver_does : (exit : List ℕ) → b ≡ false → Leads entry exit (Posts t name) → Does (deliver s k) entry exit (Ok 0)
       unfolding Answers perform Leads
       deliver_does exit e leads st rest h =
           let m = message_of s k (the_send st rest h).value in

@@ -19,8 +19,8 @@ fn grow(store: &mut [u32], present: Span, to: usize, kind: u32, number: u32, nex
     let from = present.from;
     let end = present.end;
     let head = Head {
-        kind: kind,
-        number: number,
+        kind,
+        number,
         queued: 0,
     };
     copy_slot(store, from, to, SLOT_HEAD + present.words, head);
@@ -59,8 +59,8 @@ fn take(store: &mut [u32], present: Span, to: usize, place: usize, next: &[u32])
     let number = place as u32;
     let head = Head {
         kind: REC,
-        number: number,
-        queued: queued,
+        number,
+        queued,
     };
     copy_slot(store, from, to, end - from, head);
     take_out(&mut store[from..end], present.words, place, next);

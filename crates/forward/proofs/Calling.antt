@@ -6,12 +6,13 @@ use mathlib.Core.List.{List}
 use native.Mathlib.Omega.{arith}
 use lib.ListN.{length, take}
 use lib.Seq.{length-take-le}
+use Rattle.std.specs.Prelude.{Err}
 use Rattle.rules.specs.State.{in_pool}
 use Rattle.rules.specs.Commands.{step, spawn_into, at_process, run}
 use Rattle.demands.proofs.Frame.{no_process_lem}
 use Rattle.store.specs.Image.{IsImage}
 use Rattle.calls.specs.Numbers.{number_of, value_of}
-use Rattle.calls.specs.declared.answers.Answer.TheVariants.{NoProcess}
+use Rattle.calls.specs.declared.answers.Refusal.TheVariants.{NoProcess}
 use Rattle.reading.specs.Reads.{OfState, Lives}
 use Rattle.calls.specs.Answering.{Does}
 use Rattle.making.specs.Making.{Sized}
@@ -20,13 +21,13 @@ use Rattle.reading.proofs.Holding.{at_image}
 use Rattle.making.proofs.Living.{sizes_of}
 
 module _ (entry : List ℕ) (p : ℕ) (b : Bool) (pool : OfState entry (λ s. b ≡ in_pool s p)) where
-  pub step_nobody : b ≡ false → Does (step p) entry entry NoProcess
+  pub step_nobody : b ≡ false → Does (step p) entry entry (Err NoProcess)
   unfolding OfState run at_process number_of value_of
-  step_nobody e = does_refused (step p) entry NoProcess refl (λ s rest h. rw (no_process_lem s p (sym (pool s rest h) ∙ e)) refl)
+  step_nobody e = does_refused (step p) entry (Err NoProcess) refl (λ s rest h. rw (no_process_lem s p (sym (pool s rest h) ∙ e)) refl)
 
-  pub spawn_nobody : (f : ℕ) → b ≡ false → Does (spawn_into p f) entry entry NoProcess
+  pub spawn_nobody : (f : ℕ) → b ≡ false → Does (spawn_into p f) entry entry (Err NoProcess)
   unfolding OfState run at_process number_of value_of
-  spawn_nobody f e = does_refused (spawn_into p f) entry NoProcess refl (λ s rest h. rw (no_process_lem s p (sym (pool s rest h) ∙ e)) refl)
+  spawn_nobody f e = does_refused (spawn_into p f) entry (Err NoProcess) refl (λ s rest h. rw (no_process_lem s p (sym (pool s rest h) ∙ e)) refl)
 
   pub somebody : b ≡ true → OfState entry (Lives p)
   unfolding OfState

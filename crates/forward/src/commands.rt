@@ -1,48 +1,26 @@
 // Step and spawn.
 ghost use Rattle.rules.specs.Commands.{step as step_of, spawn_into};
-ghost use Rattle.store.specs.Image.{IsImage};
 ghost use Rattle.calls.specs.Numbers.{CommandCall};
-ghost use Rattle.calls.specs.Answering.{Does};
 
-use calls::answers::Answer;
+use calls::answers::{Answer, Refusal};
 use reading::state::{in_pool, most_words};
 use soundness::sound::sound;
 use stepping::stepping::{spawn_live, step_live};
 use store::layout::CONTROL_ROOM;
-
-fn step_sound(store: &mut [u32], p: u32) -> Answer
-    requires { IsImage store.old }
-    ensures { Does (step_of p) store.old store.new result }
-{
-    if !in_pool(store, p) {
-        return Answer::NoProcess;
-    }
-    let mut row = [0; CONTROL_ROOM];
-    let words = most_words(store);
-    step_live(store, p, &mut row[..words])
-}
 
 // One step of p that isn't a spawn.
 pub fn step(store: &mut [u32], p: u32) -> Answer
     ensures { CommandCall (step_of p) store.old store.new result }
 {
     if !sound(store) {
-        return Answer::NotAState;
+        return Err(Refusal::NotAState);
     }
-    step_sound(store, p)
-}
-
-fn spawn_sound(store: &mut [u32], p: u32, f: u32) -> Answer
-    requires { IsImage store.old }
-    ensures { Does (spawn_into p f) store.old store.new result }
-{
     if !in_pool(store, p) {
-        return Answer::NoProcess;
+        return Err(Refusal::NoProcess); // nobody steps
     }
     let mut row = [0; CONTROL_ROOM];
-    let mut first = [0; CONTROL_ROOM];
     let words = most_words(store);
-    spawn_live(store, p, f, &mut row[..words], &mut first[..words])
+    step_live(store, p, &mut row[..words])
 }
 
 // A spawn of p into place f.
@@ -50,7 +28,13 @@ pub fn spawn(store: &mut [u32], p: u32, f: u32) -> Answer
     ensures { CommandCall (spawn_into p f) store.old store.new result }
 {
     if !sound(store) {
-        return Answer::NotAState;
+        return Err(Refusal::NotAState);
     }
-    spawn_sound(store, p, f)
+    if !in_pool(store, p) {
+        return Err(Refusal::NoProcess);
+    }
+    let mut row = [0; CONTROL_ROOM];
+    let mut first = [0; CONTROL_ROOM];
+    let words = most_words(store);
+    spawn_live(store, p, f, &mut row[..words], &mut first[..words])
 }

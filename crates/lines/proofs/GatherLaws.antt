@@ -14,9 +14,9 @@ use Rattle.text.specs.Written.{far, onward}
 use Rattle.text.proofs.WritingLaws.{wrote_then, wrote_none}
 use Rattle.replies.specs.Replied.{reply_text, Replied}
 use Rattle.lines.specs.Performed.{Performed, no_line, one_line, Says}
-use Rattle.lines.specs.Input.{Kept, Gathered, ended, gather, Took, longest_good, HasRoom, Hears, takes, refuses, Ends}
-use Rattle.lines.specs.declared.input.Block.{Block}
-use Rattle.lines.specs.declared.input.Block.TheVariants.{Taken, Refused}
+use Rattle.lines.specs.Input.{Kept, Gathered, ended, gather, Took, HasRoom, Hears, takes, refuses, Ends}
+use Rattle.lines.specs.declared.input.Heard.{Heard}
+use Rattle.std.specs.Prelude.{Option, Some}
 
 -- ---- what a byte gathers
 
@@ -160,21 +160,13 @@ pub took_all : (l : List ℕ) (i : ℕ) {entry line old exit after new : List �
     → Took entry line count l at old exit after kept new end
 took_all l i h t = rw (take_all i l h) at t
 
--- ---- a block is taken, or nothing
+-- ---- a block is taken
 
-pub hears_short : (entry line : List ℕ) (count : ℕ) (input old : List ℕ) → length line ≤ longest_good → Hears entry line count input old entry line old Refused
-hears_short entry line count input old h = refuses (λ room. absurd (omega (arith, room.0)))
-
-pub hears_over : (entry line : List ℕ) (count : ℕ) (input old : List ℕ) → length line < count → Hears entry line count input old entry line old Refused
-hears_over entry line count input old h = refuses (λ room. absurd (omega (arith, room.1)))
-
--- a block that was taken
-pub hears_taken : {entry line input old exit after new : List ℕ} {count kept end : ℕ} {r : Block} → Hears entry line count input old exit after new r → r ≡ Taken kept end
-    → HasRoom line count × Took entry line count input 0 old exit after kept new end
-hears_taken {entry} {line} {input} {old} {exit} {after} {new} {count} {kept} {end} (takes {kept = n} {end = e} room t) same =
-    let k : n ≡ kept = cc in
-    let z : e ≡ end = cc in
-    (room, subst (λ (x : ℕ). Took entry line count input 0 old exit after x new end) k (subst (λ (x : ℕ). Took entry line count input 0 old exit after n new x) z t))
+pub hears_taken : {entry line input old exit after new : List ℕ} {count : ℕ} {r : Option Heard} {heard : Heard} → Hears entry line count input old exit after new r → r ≡ Some heard
+    → HasRoom line count × Took entry line count input 0 old exit after heard.count new heard.end
+hears_taken {entry} {line} {input} {old} {exit} {after} {new} {count} {heard = heard} (takes {heard = h} room t) same =
+    let e : h ≡ heard = cc in
+    (room, subst (λ (x : Heard). Took entry line count input 0 old exit after x.count new x.end) e t)
 hears_taken (refuses none_there) same = let z : ◌≡◌ {A = ℕ} 0 1 = cc in absurd (omega arith)
 
 -- ---- the input ends

@@ -13,8 +13,7 @@ use Rattle.rules.specs.Text.{line_feed}
 use Rattle.rules.specs.Line.{onto_first, split, without_empty_last, lines_of, parse_line}
 use Rattle.rules.specs.Replies.{replies, without_state}
 use Rattle.parsing.proofs.LongLines.{parse_long}
-use Rattle.calls.specs.Numbers.{TextCall}
-use Rattle.calls.specs.declared.answers.Answer.{Answer}
+use Rattle.calls.specs.Numbers.{Answer, TextCall}
 use Rattle.replies.specs.Replied.{reply_text}
 use Rattle.lines.specs.Performed.{Performed, no_line, one_line}
 use Rattle.lines.specs.Input.{Gathered, ended, gather, longest_good}

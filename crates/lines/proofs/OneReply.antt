@@ -5,14 +5,14 @@ use mathlib.Core.List.{List, ◌++◌}
 use Rattle.rules.specs.Line.{parse_line}
 use Rattle.text.specs.Written.{Wrote}
 use Rattle.text.proofs.WritingLaws.{wrote_same}
-use Rattle.calls.specs.declared.answers.Answer.{Answer}
+use Rattle.calls.specs.Numbers.{Answer}
 use Rattle.calls.proofs.OneAnswer.{answers_determined}
 use Rattle.replies.specs.Replied.{reply_text, Replied}
 use Rattle.lines.specs.Performed.{Performed, no_line, one_line, Says}
 use Rattle.lines.specs.Input.{Hears, takes, refuses, Ends}
 use Rattle.lines.specs.InputDetermined.{InputDetermined}
-use Rattle.lines.specs.declared.input.Block.{Block}
-use Rattle.lines.specs.declared.input.Block.TheVariants.{Taken}
+use Rattle.lines.specs.declared.input.Heard.{Heard}
+use Rattle.std.specs.Prelude.{Option, Some}
 
 pub reply_determined : (line entry exit exit' : List ℕ) (at : ℕ) (old new new' : List ℕ) (end end' : ℕ) → Replied line entry exit at old new end → Replied line entry exit' at old new' end'
     → (exit ≡ exit') × ((new ≡ new') × (end ≡ end'))
@@ -36,12 +36,12 @@ says_same {old = old} {new = new} {at = at} {end = end} t u =
     let w = wrote_same (subst (λ (x : List ℕ). Wrote x at old new end) s t.text) u.text in
     (e, w.0, w.1)
 
-block_same : {entry line input old exit exit' after after' new new' : List ℕ} {count : ℕ} {r r' : Block} → Hears entry line count input old exit after new r
+block_same : {entry line input old exit exit' after after' new new' : List ℕ} {count : ℕ} {r r' : Option Heard} → Hears entry line count input old exit after new r
     → Hears entry line count input old exit' after' new' r' → (exit ≡ exit') × (after ≡ after') × (new ≡ new') × (r ≡ r')
 block_same (takes room t) (takes room' u) =
     let (e, n, z) = says_same t.says u.says in
     let k = t.count_is ∙ sym u.count_is in
-    (e, t.line_is ∙ sym u.line_is, n, λ i. Taken (k i) (z i))
+    (e, t.line_is ∙ sym u.line_is, n, λ i. Some (record { count = k i; end = z i }))
 block_same (takes room t) (refuses none_there) = absurd (none_there room)
 block_same (refuses none_there) (takes room u) = absurd (none_there room)
 block_same (refuses none_there) (refuses also) = (refl, refl, refl, refl)

@@ -27,8 +27,7 @@ use Rattle.store.specs.Loading.{Outcome, load_into}
 use Rattle.store.proofs.LoadCodeAnswers.{into_short, into_load}
 use Rattle.store.specs.Loading as loading
 use Rattle.calls.specs.Calls.{outcome, count_in, stored, RequestCall, AskedCall, LineCall, written, ListingCall, LoadCall}
-use Rattle.calls.specs.Numbers.{number_of, value_of, TextCall, Lists}
-use Rattle.calls.specs.declared.answers.Answer.{Answer}
+use Rattle.calls.specs.Numbers.{Answer, number_of, value_of, TextCall, Lists}
 use Rattle.replies.specs.Replied.{rolls_back, undone_by, reply_text}
 use Rattle.replies.proofs.LineLaws.{single_undone, refused_undone, rolled_undone}
 use Rattle.lines.proofs.AfterRequest.{sound_after, plan_undone, NotDone, rollback_not_done}

@@ -1,6 +1,6 @@
 -- What the input's bytes do, block by block, and what the program bench prints for all of them. `program_of_blocks` of proofs/ shows what is
 -- claimed.
-use Rattle.std.specs.Prelude.{ℕ, ◌+◌, ◌*◌, ◌≤◌, ◌<◌, min, ◌≡◌, true, false, List, [], ◌∷◌, ◌++◌, eqb, length, take, set, replicate}
+use Rattle.std.specs.Prelude.{ℕ, ◌+◌, ◌*◌, ◌≤◌, ◌<◌, min, ◌≡◌, true, false, List, [], ◌∷◌, ◌++◌, eqb, length, take, set, replicate, Option, Some, None}
 use Rattle.rules.specs.Text.{line_feed}
 use Rattle.rules.specs.State.{Sizes}
 use Rattle.rules.specs.Line.{without_empty_last}
@@ -12,8 +12,7 @@ use Rattle.calls.specs.Calls.{LoadCall}
 use Rattle.replies.specs.Replied.{reply_room}
 use Rattle.lines.specs.Performed.{Says}
 use Rattle.lines.specs.Listed.{Listed}
-use Rattle.lines.specs.declared.input.Block.{Block}
-use Rattle.lines.specs.declared.input.Block.TheVariants.{Taken, Refused}
+use Rattle.lines.specs.declared.input.Heard.{Heard}
 
 -- one byte more of a line, where there is room for it; all else stands as it stood (`set` past the end changes nothing)
 pub record Kept (line : List ℕ) (count b : ℕ) (after : List ℕ) (kept : ℕ) : Type 0 where
@@ -53,10 +52,10 @@ abbrev pub HasRoom : (line : List ℕ) (count : ℕ) → Type 0
 HasRoom line count = (longest_good < length line) × (count ≤ length line)
 
 -- a block of the input, for all that is lent: it is taken, or it is refused and nothing changes
-pub data Hears (entry line : List ℕ) (count : ℕ) (input old : List ℕ) : (exit after new : List ℕ) → Block → Type 0 where
-  takes : {exit after new : List ℕ} {kept end : ℕ} → HasRoom line count → Took entry line count input 0 old exit after kept new end
-      → Hears entry line count input old exit after new (Taken kept end)
-  refuses : ¬ HasRoom line count → Hears entry line count input old entry line old Refused
+pub data Hears (entry line : List ℕ) (count : ℕ) (input old : List ℕ) : (exit after new : List ℕ) → Option Heard → Type 0 where
+  takes : {exit after new : List ℕ} {heard : Heard} → HasRoom line count → Took entry line count input 0 old exit after heard.count new heard.end
+      → Hears entry line count input old exit after new (Some heard)
+  refuses : ¬ HasRoom line count → Hears entry line count input old entry line old None
 
 -- the end of the input, where a line has begun: it is a line though it has no LF, if it is not empty
 unfoldable pub Ends : (entry begun old exit new : List ℕ) (end : ℕ) → Type 0
@@ -65,7 +64,7 @@ Ends entry begun old exit new end = Says entry (without_empty_last (begun ∷ []
 -- blocks of input, each taken, with an output that has room: what stands before the output's end is printed
 pub data Blocks : (entry line : List ℕ) (count : ℕ) (input exit after : List ℕ) (kept : ℕ) (printed : List ℕ) → Type 0 where
   no_more : {store line : List ℕ} {count : ℕ} → Blocks store line count [] store line count []
-  block : {entry line input old mid then new more exit after printed : List ℕ} {count begun end kept : ℕ} → Hears entry line count input old mid then new (Taken begun end)
+  block : {entry line input old mid then new more exit after printed : List ℕ} {count begun end kept : ℕ} → Hears entry line count input old mid then new (Some (record { count = begun; end = end }))
       → reply_room * length input ≤ length old → Blocks mid then begun more exit after kept printed → Blocks entry line count (input ++ more) exit after kept (take end new ++ printed)
 
 -- all of the input, its end, and the listing

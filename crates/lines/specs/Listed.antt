@@ -1,8 +1,7 @@
 -- The listing as the program prints it.
 use Rattle.std.specs.Prelude.{ℕ, ◌≤◌, ◌≡◌, List, length, take}
 use Rattle.rules.specs.Listing.{listing_room}
-use Rattle.calls.specs.Numbers.{value_of, Lists}
-use Rattle.calls.specs.declared.answers.Answer.{Answer}
+use Rattle.calls.specs.Numbers.{Answer, value_of, Lists}
 
 -- the listing in an output that has room for any listing; a refusal has the length 0, and nothing is printed
 pub record Listed (store printed : List ℕ) : Type 0 where

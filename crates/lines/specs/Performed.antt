@@ -2,8 +2,7 @@
 use Rattle.std.specs.Prelude.{ℕ, ◌*◌, ◌≤◌, List, [], ◌∷◌, ◌++◌, length}
 use Rattle.rules.specs.Line.{parse_line}
 use Rattle.text.specs.Written.{Wrote}
-use Rattle.calls.specs.Numbers.{TextCall}
-use Rattle.calls.specs.declared.answers.Answer.{Answer}
+use Rattle.calls.specs.Numbers.{Answer, TextCall}
 use Rattle.replies.specs.Replied.{reply_text, reply_room}
 
 -- each line is performed on the store that the one before it left

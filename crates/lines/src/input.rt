@@ -12,18 +12,12 @@ const DIGITS: usize = 3;
 
 pub const LONGEST_GOOD: usize = ROLLBACK.len() + DIGITS + 1 + DIGITS;
 
-// How many bytes stand of a line that has not ended, and where the output ends.
+// How many bytes stand of a line that has not ended, and where the output ends. A line and its count are two parameters, and no buffer with a
+// length: the clauses `Kept` and `Hears` are of the caller's whole line.
 #[derive(Clone, Copy)]
-struct Heard {
-    count: usize,
-    end: usize,
-}
-
-// A block that was taken, with how many bytes stand of a line that has not ended and where the output ends; or one that was not taken.
-#[derive(Clone, Copy)]
-pub enum Block {
-    Taken(usize, usize),
-    Refused,
+pub struct Heard {
+    pub count: usize,
+    pub end: usize,
 }
 
 // One byte more of a line. Of a line that is longer than any good one only the first bytes are kept: it is malformed whatever follows.
@@ -43,7 +37,7 @@ fn end_line(store: &mut [u32], line: &[u8], out: &mut [u8], at: usize) -> Heard
     ensures replied { Replied line.now store.old store.new at out.old out.new result.end }
 {
     let end = reply(store, line, out, at);
-    Heard { count: 0, end: end }
+    Heard { count: 0, end }
 }
 
 // One byte of the input, after so many of its line.
@@ -79,16 +73,9 @@ fn take_lines(
     requires { count ≤ length line.old }
     ensures { Took store.old line.old count block.now 0 out.old store.new line.new result.count out.new result.end }
 {
-    let mut heard = Heard {
-        count: count,
-        end: 0,
-    };
-    let mut i = 0;
-    while i < block.len() {
-        let n = heard.count;
-        let at = heard.end;
-        heard = take_byte(store, line, n, block[i], out, at);
-        i += 1;
+    let mut heard = Heard { count, end: 0 };
+    for b in block {
+        heard = take_byte(store, line, heard.count, *b, out, heard.end);
     }
     heard
 }
@@ -101,24 +88,20 @@ pub fn take_block(
     count: usize,
     block: &[u8],
     out: &mut [u8],
-) -> Block
+) -> Option<Heard>
     ensures { Hears store.old line.old count block.now out.old store.new line.new out.new result }
 {
-    if line.len() <= LONGEST_GOOD {
-        return Block::Refused;
+    if line.len() <= LONGEST_GOOD || line.len() < count {
+        return None;
     }
-    if line.len() < count {
-        return Block::Refused;
-    }
-    let heard = take_lines(store, line, count, block, out);
-    Block::Taken(heard.count, heard.end)
+    Some(take_lines(store, line, count, block, out))
 }
 
 // The end of the input: a last line may have no LF.
 pub fn last_line(store: &mut [u32], line: &[u8], out: &mut [u8]) -> usize
     ensures { Ends store.old line.now out.old store.new out.new result }
 {
-    if line.len() == 0 {
+    if line.is_empty() {
         return 0;
     }
     reply(store, line, out, 0)

@@ -5,25 +5,25 @@ ghost use Rattle.calls.specs.Numbers.{number_of, value_of, TextCall};
 ghost use Rattle.replies.specs.Replied.{Replied};
 
 use backward::backward::{back, undeliver};
-use calls::answers::Answer;
+use calls::answers::{Answer, Refusal};
 use delivery::delivery::deliver;
 use forward::commands::{spawn, step};
-use parsing::parsing::{Line, parse_line};
+use parsing::parsing::{Command, parse_line};
 use replies::replies::write_reply;
 use rollback::rollback::rollback;
 
 // What a line asks for.
-fn perform(store: &mut [u32], asked: Line) -> Answer
+fn perform(store: &mut [u32], asked: Option<Command>) -> Answer
     ensures { AskedCall (request_of asked) store.old (outcome (number_of result) (value_of result) store.new) }
 {
-    match asked {
-        Line::Step(p) => step(store, p),
-        Line::Spawn(p, f) => spawn(store, p, f),
-        Line::Deliver(s, k) => deliver(store, s, k),
-        Line::Back(p) => back(store, p),
-        Line::Undeliver(p) => undeliver(store, p),
-        Line::Rollback(p, t) => rollback(store, p, t),
-        Line::Malformed => Answer::BadLine,
+    let command = asked.ok_or(Refusal::BadLine)?;
+    match command {
+        Command::Step(p) => step(store, p),
+        Command::Spawn(p, f) => spawn(store, p, f),
+        Command::Deliver(s, k) => deliver(store, s, k),
+        Command::Back(p) => back(store, p),
+        Command::Undeliver(p) => undeliver(store, p),
+        Command::Rollback(p, t) => rollback(store, p, t),
     }
 }
 

@@ -1,20 +1,20 @@
 -- Arrivals read from a store: how many there are, and which of them has a name.
+use Rattle.std.proofs.Common.{None, Some}
 use Prim.Native.Nat.{ℕ, zero, suc, ◌+◌, ◌*◌, ◌-◌, ◌≤◌, ◌<◌}
 use mathlib.Core.Path.{◌≡◌, refl, sym, ◌∙◌, ap, subst}
 use mathlib.Core.Logic.{inl, inr}
 use mathlib.Core.Option.{Option, none, some}
 use mathlib.Core.List.{List, [], ◌∷◌, ◌++◌, map}
-use native.Mathlib.Decide.{ℕ_discrete}
 use native.Mathlib.Omega.{arith}
 use native.Mathlib.Nat.{mul-le-mul}
 use lib.ListN.{length, drop, get_or, length-append, length-map}
 use Rattle.rules.specs.State.{Message, Taking, taking, as_rec, Entry, State, history_at, entry_at}
-use Rattle.rules.specs.Flight.{also_taken, taken, left_or, left}
+use Rattle.rules.specs.Flight.{taken, left_or, left}
 use Rattle.rules.specs.Sound.{Sound}
 use Rattle.rules.specs.Depends.{queue_before, level}
 use Rattle.rules.specs.Standing.{Stands, Arrives, shown_or, shown, come, seen}
 use Rattle.demands.proofs.Messages.{Any, here, there, any_append, any_middle, any_none}
-use Rattle.demands.proofs.Arrival.{length_come, taken_nil}
+use Rattle.demands.proofs.Arrival.{length_come}
 use Rattle.demands.proofs.Event.{arrivals_at}
 use Rattle.demands.proofs.EventDepends.{stands_entry, entry_here}
 use Rattle.demands.proofs.CutNumbers.{number_now, number_then, seen_is}
@@ -23,7 +23,6 @@ use Rattle.store.specs.Image.{IsImage}
 use Rattle.store.proofs.SoundStates.{sizes_in_lem, storable}
 use Rattle.reading.specs.Reads.{Holds, OfState, IsEntry, OfEntry, oldest}
 use Rattle.reading.proofs.Oldest.{parted, none_by_kind, oldest_none, oldest_all, entry_exists}
-use Rattle.reading.specs.declared.found.Found.TheVariants.{Nowhere, At}
 use Rattle.cuts.specs.Bounds.{most_places, most_entries, most_queued}
 use Rattle.links.specs.Listed.{OfRec, PlaceFrom, ArrivalIs, ComeCount, LeftAt}
 use Rattle.links.proofs.LinkReads.{stands_oldest, rec_of}
@@ -35,56 +34,10 @@ queue_low s p sound =
     let most : s.sizes.places * s.sizes.entries ≤ most_places * most_entries = mul-le-mul {n₁ = s.sizes.places} {m₁ = s.sizes.entries} {n₂ = most_places} {m₂ = most_entries} sizes.places_high sizes.entries_high in
     omega (arith, ((storable s sound).queue p).fits, most)
 
--- ---- recs, one entry after the other
-taken_plus : (o : Option Taking) (b : List Message) → length (also_taken o b) ≡ length b + length (also_taken o [])
-unfolding also_taken
-taken_plus none b = omega arith
-taken_plus (some (taking a m d)) b = omega arith
-
-taken_one : (o : Option Taking) → length (also_taken o []) ≤ 1
-unfolding also_taken
-taken_one none = omega arith
-taken_one (some (taking a m d)) = omega arith
-
-recs_next : (h : List Entry) (i : ℕ) {e : Entry} → entry_at h i ≡ some e → length (taken (oldest (i + 1) h)) ≡ length (taken (oldest i h)) + length (also_taken (as_rec e.kind) [])
-unfolding taken
-recs_next h i {e} stands = ap (λ l. length (taken l)) (parted h i stands).before ∙ taken_plus (as_rec e.kind) (taken (oldest i h))
-
+-- ---- how many recs there are
 module _ (store : List ℕ) (p : ℕ) where
   abbrev pub RecsAt : (i n : ℕ) → Type 0
   RecsAt i n = OfState store (λ s. n ≡ length (taken (oldest i (history_at s p))))
-
-  abbrev pub RecHere : (i x : ℕ) → Type 0
-  RecHere i x = OfState store (OfEntry p i (λ e. x ≡ length (also_taken (as_rec e.kind) [])))
-
-  pub rec_one : (i k : ℕ) → OfState store (OfEntry p i (λ e. k ≡ kind_number e.kind)) → k ≡ kind_rec → RecHere i 1
-  unfolding OfState OfEntry also_taken
-  rec_one i k read e s rest holds f stands = let (a, m, d, is) = rec_of f.kind (sym (read s rest holds f stands) ∙ e) in sym (ap (λ o. length (also_taken o [])) is)
-
-  pub rec_other : (i k : ℕ) → OfState store (OfEntry p i (λ e. k ≡ kind_number e.kind)) → ¬ (k ≡ kind_rec) → RecHere i 0
-  unfolding OfState OfEntry also_taken
-  rec_other i k read n s rest holds f stands = sym (ap (λ o. length (also_taken o [])) (none_by_kind f.kind (λ z. n (read s rest holds f stands ∙ z))))
-
-  pub recs_start : RecsAt 0 0
-  unfolding OfState
-  recs_start s rest holds = sym (ap (λ l. length (taken l)) (oldest_none (history_at s p)) ∙ ap length taken_nil)
-
-  pub recs_more : (i n x : ℕ) → OfState store (IsEntry p i) → RecsAt i n → RecHere i x → RecsAt (i + 1) (n + x)
-  unfolding OfState OfEntry
-  recs_more i n x there-is recs here-is s rest holds =
-      let (e, stands) = entry_exists (history_at s p) i (there-is s rest holds) in
-      omega (arith, recs s rest holds, here-is s rest holds e stands, recs_next (history_at s p) i stands)
-
-  pub recs_low : (i x : ℕ) → IsImage store → OfState store (IsEntry p i) → RecHere i x → x ≤ 1
-  unfolding OfState OfEntry
-  recs_low i x is_image there-is here-is =
-      let s = is_image.state in
-      let holds : Holds store s is_image.rest = record { sound = is_image.sound; words = is_image.words } in
-      let (e, stands) = entry_exists (history_at s p) i (there-is s is_image.rest holds) in
-      omega (arith, here-is s is_image.rest holds e stands, taken_one (as_rec e.kind))
-
-  pub recs_done : (i j n : ℕ) → j ≤ i → i ≤ j → RecsAt j n → RecsAt i n
-  recs_done i j n h g recs = let e : j ≡ i = omega (arith, h, g) in subst (λ k. RecsAt k n) e recs
 
   -- how many came
   pub come_counted : (end n : ℕ) (queue : List ℕ) → OfState store (λ s. end ≡ length (history_at s p)) → RecsAt end n → n ≤ end → OfState store (λ s. queue ≡ map name_word (s.queues p)) → OfState store (ComeCount p (n + length queue))
@@ -123,19 +76,6 @@ name_index [] (suc k) name x = absurd (any_none x refl)
 name_index (m ∷ l) zero name (here e) = (0, omega arith, omega arith, e)
 name_index (m ∷ l) zero name (there x) = let (j, a, b, c) = name_index l zero name x in (suc j, omega arith, omega (arith, b), c)
 name_index (m ∷ l) (suc k) name x = let (j, a, b, c) = name_index l k name x in (suc j, omega (arith, a), omega (arith, b), c)
-
--- ---- places from a place on
-module _ (names : List ℕ) (from name : ℕ) where
-  pub place_here : (i : ℕ) → from ≤ i → i < length names → get_or names i 0 ≡ name → PlaceFrom names from name (At i)
-  unfolding PlaceFrom
-  place_here i h g e = (h, g, e)
-
-  pub place_on : (i : ℕ) → ((j : ℕ) → from ≤ j → j < i → ¬ (get_or names j 0 ≡ name)) → ¬ (get_or names i 0 ≡ name) → (j : ℕ) → from ≤ j → j < i + 1 → ¬ (get_or names j 0 ≡ name)
-  place_on i before n j h g = elim (ℕ_discrete j i) [ yes e ↦ (λ z. n (ap (λ k. get_or names k 0) (sym e) ∙ z)) | no m ↦ before j h (omega (arith, g, m)) ]
-
-  pub place_nowhere : (i : ℕ) → length names ≤ i → ((j : ℕ) → from ≤ j → j < i → ¬ (get_or names j 0 ≡ name)) → PlaceFrom names from name Nowhere
-  unfolding PlaceFrom
-  place_nowhere i h before = λ j a b. before j a (omega (arith, b, h))
 
 -- ---- the walk over the queues that a place's entries show
 module _ (store : List ℕ) (q : ℕ) where
@@ -184,8 +124,8 @@ module _ (store : List ℕ) (q : ℕ) where
         let (e, stands) = entry_exists (history_at s q) i (there-is s rest holds) in
         at s rest holds e stands (left (oldest i (history_at s q))) (sym (left_is s rest holds)) ∙ sym (ap length (left_next (history_at s q) i stands))
 
-    pub unshown_more : Unshown i name → PlaceFrom names leftover name Nowhere → Unshown (i + 1) name
-    unfolding OfState OfEntry PlaceFrom shown_or queue_before
+    pub unshown_more : Unshown i name → PlaceFrom names leftover name None → Unshown (i + 1) name
+    unfolding OfState OfEntry shown_or queue_before
     unshown_more unshown nowhere s rest holds x =
         let (e, stands) = entry_exists (history_at s q) i (there-is s rest holds) in
         go (oldest i (history_at s q)) (as_rec e.kind) (named s rest holds e stands) (left_is s rest holds) (unshown s rest holds) (subst (Any (HasName name)) (shown_next (history_at s q) i stands) x)
@@ -197,8 +137,8 @@ module _ (store : List ℕ) (q : ℕ) where
           | inr y ↦ (let (j, low, high, at) = name_index (a ++ (m ∷ d)) (length (left g)) name y in nowhere j (omega (arith, low, l)) (subst (λ z. j < length z) (sym e) high) (ap (λ z. get_or z j 0) e ∙ at))
         ]
 
-    pub shown_here : (j recs : ℕ) → PlaceFrom names leftover name (At j) → OfState store (λ s. recs ≡ length (taken (oldest i (history_at s q)))) → OfState store (ArrivalIs q name (At (recs + j)))
-    unfolding OfState OfEntry PlaceFrom ArrivalIs queue_before level
+    pub shown_here : (j recs : ℕ) → PlaceFrom names leftover name (Some j) → OfState store (λ s. recs ≡ length (taken (oldest i (history_at s q)))) → OfState store (ArrivalIs q name (Some (recs + j)))
+    unfolding OfState OfEntry ArrivalIs queue_before level
     shown_here j recs (low, high, at) counted s rest holds =
         let (e, g, st) = entry_here s q i (there-is s rest holds) in
         go e g st (as_rec e.kind) refl (named s rest holds e (stands_entry st)) (left_is s rest holds ∙ ap (λ z. length (left z)) (stands_oldest st)) (counted s rest holds ∙ ap (λ z. length (taken z)) (stands_oldest st))
@@ -216,8 +156,8 @@ module _ (store : List ℕ) (q : ℕ) where
     unfolding OfState
     whole_is s rest holds = ap (λ k. oldest k (history_at s q)) (ends s rest holds) ∙ oldest_all (history_at s q)
 
-    pub queued_here : (j recs : ℕ) → PlaceFrom names leftover name (At j) → OfState store (λ s. recs ≡ length (taken (oldest end (history_at s q)))) → OfState store (ArrivalIs q name (At (recs + j)))
-    unfolding OfState PlaceFrom ArrivalIs
+    pub queued_here : (j recs : ℕ) → PlaceFrom names leftover name (Some j) → OfState store (λ s. recs ≡ length (taken (oldest end (history_at s q)))) → OfState store (ArrivalIs q name (Some (recs + j)))
+    unfolding OfState ArrivalIs
     queued_here j recs (low, high, at) counted s rest holds =
         let own = whole_is s rest holds in
         let z = named s rest holds in
@@ -226,8 +166,8 @@ module _ (store : List ℕ) (q : ℕ) where
         let same : length x + length (taken (history_at s q)) ≡ recs + j = omega (arith, size, counted s rest holds, ap (λ w. length (taken w)) own) in
         (n, subst (λ k. Arrives s q k n) same r, name-is)
 
-    pub queued_nowhere : Unshown end name → PlaceFrom names leftover name Nowhere → OfState store (ArrivalIs q name Nowhere)
-    unfolding OfState PlaceFrom ArrivalIs come
+    pub queued_nowhere : Unshown end name → PlaceFrom names leftover name None → OfState store (ArrivalIs q name None)
+    unfolding OfState ArrivalIs come
     queued_nowhere unshown nowhere s rest holds j n r e =
         let own = whole_is s rest holds in
         let z = named s rest holds in

@@ -1,6 +1,7 @@
 -- The links of one entry, read from a store: what 01's list has of a rec, a send, a spawn, and of any other entry.
+use Rattle.std.proofs.Common.{None, Some}
 use Prim.Native.Nat.{ℕ, suc, ◌+◌, ◌*◌, ◌-◌, ◌≤◌, ◌<◌}
-use mathlib.Core.Path.{◌≡◌, refl, sym, ◌∙◌, ap, subst, subst₂}
+use mathlib.Core.Path.{◌≡◌, refl, sym, ◌∙◌, ap, subst}
 use mathlib.Core.Logic.{◌⊎◌, inl, inr}
 use mathlib.Core.Option.{some}
 use mathlib.Core.List.{List, [], ◌∷◌, ◌++◌}
@@ -25,12 +26,12 @@ use Rattle.store.proofs.SoundStates.{sizes_in_lem, in_places, numbered}
 use Rattle.reading.specs.Reads.{Holds, OfState, IsPlace, IsEntry, OfEntry, IsSend, OfSend, oldest}
 use Rattle.reading.proofs.Oldest.{send_by_kind, rec_by_kind, parted}
 use Rattle.reading.proofs.MailReads.{sends_low}
-use Rattle.reading.specs.declared.found.Found.TheVariants.{Nowhere, At}
 use Rattle.cuts.specs.Bounds.{most_entries}
-use Rattle.cuts.specs.Links.{put_link}
+use Rattle.cuts.specs.declared.events.Event.{Event}
+use Rattle.cuts.specs.declared.link.Link.{Link}
 use Rattle.links.specs.Listed.{IsKind, OfRec, ArrivalIs, TiesAt, rec_at, since_at, send_at, child_at, mail_at, AimsAt, aim_at, Adds}
 use Rattle.cuts.proofs.LinkUndo.{stands_same, stands_after, seen_same, letter_target, send_mark, rec_mark, spawn_mark, mark}
-use Rattle.links.proofs.LinkAdds.{SameLink, Just, Two, adds_none, adds_one, adds_two, put_both}
+use Rattle.links.proofs.LinkAdds.{event_at, add_event, add_link, SameLink, Just, Two, adds_none, adds_one, adds_two}
 
 -- ---- kinds
 pub rec_of : (kind : Kind) → kind_number kind ≡ kind_rec → (a : List Message) × (m : Message) × (d : List Message) × (as_rec kind ≡ some (taking a m d))
@@ -238,29 +239,24 @@ module _ (store : List ℕ) (p i : ℕ) (there : OfState store (IsEntry p i)) wh
         let (a, m, d, is) = rec_of e.kind (kind_at kind s is_image.rest holds e g st) in
         omega (arith, numbered' s is_image.rest holds e g a m d st is, seen_is is_image.sound st is, length-append a (m ∷ d))
 
-    rec_put : (links exit : List ℕ) (count : ℕ) → 4 * count + 8 ≤ length links → exit ≡ put_link (put_link links count (2 * p) i (2 * p + 1) (n - 1)) (count + 1) (2 * p + 1) n (2 * p) i
-        → Adds store (TiesAt p i) links exit count (count + 2) 2
-    rec_put links exit count fits e = subst (λ r. Adds store (TiesAt p i) links r count (count + 2) 2) (sym e) (adds_two links count (2 * p) i (2 * p + 1) (n - 1) (2 * p + 1) n (2 * p) i fits (TiesAt p i) 2 (omega arith) rec_state)
+    rec_put : (links exit : List Link) → exit ≡ add_link (add_link links (2 * p) i (2 * p + 1) (n - 1)) (2 * p + 1) n (2 * p) i → Adds store (TiesAt p i) links exit 2
+    rec_put links exit e = subst (λ r. Adds store (TiesAt p i) links r 2) (sym e) (adds_two links (2 * p) i (2 * p + 1) (n - 1) (2 * p + 1) n (2 * p) i (TiesAt p i) 2 (omega arith) rec_state)
 
-    pub rec_adds : (x y : ℕ) (links mid exit : List ℕ) (count : ℕ) → x ≡ 2 * p → y ≡ 2 * p + 1 → 4 * count + 8 ≤ length links → mid ≡ put_link links count x i y (n - 1) → exit ≡ put_link mid (count + 1) y n x i
-        → Adds store (TiesAt p i) links exit count (count + 2) 2
-    rec_adds x y links mid exit count e f fits g h =
-        rec_put links exit count fits (subst₂ (λ x y. exit ≡ put_link (put_link links count x i y (n - 1)) (count + 1) y n x i) e f (put_both links mid exit count x i y (n - 1) y n x i g h))
+    pub rec_adds : (own last next : Event) (links mid exit : List Link) → own ≡ event_at (2 * p) i → last ≡ event_at (2 * p + 1) (n - 1) → next ≡ event_at (2 * p + 1) n → mid ≡ add_event links own last → exit ≡ add_event mid next own
+        → Adds store (TiesAt p i) links exit 2
+    rec_adds own last next links mid exit e f g h k = rec_put links exit (k ∙ ap (λ l. add_event l next own) h ∙ (λ j. add_event (add_event links (e j) (f j)) (g j) (e j)))
 
-  spawn_put : (q : ℕ) (links exit : List ℕ) (count : ℕ) → OfState store (IsKind p i kind_spawn) → OfState store (OfEntry p i (λ e. q ≡ number_in e.kind)) → 4 * count + 8 ≤ length links
-      → exit ≡ put_link (put_link links count (2 * q) 0 (2 * p) i) (count + 1) (2 * q + 1) 0 (2 * p) i → Adds store (TiesAt p i) links exit count (count + 2) 2
+  spawn_put : (q : ℕ) (links exit : List Link) → OfState store (IsKind p i kind_spawn) → OfState store (OfEntry p i (λ e. q ≡ number_in e.kind))
+      → exit ≡ add_link (add_link links (2 * q) 0 (2 * p) i) (2 * q + 1) 0 (2 * p) i → Adds store (TiesAt p i) links exit 2
   unfolding OfState OfEntry
-  spawn_put q links exit count kind read fits e = subst (λ r. Adds store (TiesAt p i) links r count (count + 2) 2) (sym e)
-      (adds_two links count (2 * q) 0 (2 * p) i (2 * q + 1) 0 (2 * p) i fits (TiesAt p i) 2 (omega arith)
+  spawn_put q links exit kind read e = subst (λ r. Adds store (TiesAt p i) links r 2) (sym e)
+      (adds_two links (2 * q) 0 (2 * p) i (2 * q + 1) 0 (2 * p) i (TiesAt p i) 2 (omega arith)
       (with_stands (λ s. Two (TiesAt p i s) (2 * q) 0 (2 * p) i (2 * q + 1) 0 (2 * p) i) λ s rest holds e g st.
       spawn_two holds.sound st (spawn_kind e.kind (kind_at kind s rest holds e g st) ∙ ap some (sym (read s rest holds e (stands_entry st))))))
 
-  pub spawn_adds : (q x y z : ℕ) (links mid exit : List ℕ) (count : ℕ) → x ≡ 2 * q → y ≡ 2 * q + 1 → z ≡ 2 * p → OfState store (IsKind p i kind_spawn) → OfState store (OfEntry p i (λ e. q ≡ number_in e.kind))
-      → 4 * count + 8 ≤ length links → mid ≡ put_link links count x 0 z i → exit ≡ put_link mid (count + 1) y 0 z i → Adds store (TiesAt p i) links exit count (count + 2) 2
-  spawn_adds q x y z links mid exit count e f g kind read fits h k =
-      spawn_put q links exit count kind read fits
-      (subst (λ z. exit ≡ put_link (put_link links count (2 * q) 0 z i) (count + 1) (2 * q + 1) 0 z i) g
-      (subst₂ (λ x y. exit ≡ put_link (put_link links count x 0 z i) (count + 1) y 0 z i) e f (put_both links mid exit count x 0 z i y 0 z i h k)))
+  pub spawn_adds : (q : ℕ) (first mail own : Event) (links mid exit : List Link) → first ≡ event_at (2 * q) 0 → mail ≡ event_at (2 * q + 1) 0 → own ≡ event_at (2 * p) i → OfState store (IsKind p i kind_spawn) → OfState store (OfEntry p i (λ e. q ≡ number_in e.kind))
+      → mid ≡ add_event links first own → exit ≡ add_event mid mail own → Adds store (TiesAt p i) links exit 2
+  spawn_adds q first mail own links mid exit e f g kind read h k = spawn_put q links exit kind read (k ∙ ap (λ l. add_event l mail own) h ∙ (λ j. add_event (add_event links (e j) (g j)) (f j) (g j)))
 
   module _ (t c : ℕ) (kind : OfState store (IsKind p i kind_send)) (aimed : OfState store (OfSend p i (λ target value. t ≡ target))) where
     pub target_at : (s : State) (rest : List ℕ) → Holds store s rest → (e : Entry) (g : List Entry) → Stands s p i e g → (v : List ℕ) × (as_send e.kind ≡ some (letter t v))
@@ -277,32 +273,31 @@ module _ (store : List ℕ) (p i : ℕ) (there : OfState store (IsEntry p i)) wh
           let low = sends_low (history_at s p) i in
           (counted s rest holds ∙ ap sends own, omega (arith, counted s rest holds, low, holds.sound.history_fits p, (sizes_in_lem s.sizes holds.sound.sizes_pass).entries_high))
 
-      send_put : (j : ℕ) (links exit : List ℕ) (count : ℕ) → OfState store (ArrivalIs t (p * name_base + c) (At j)) → 4 * count + 4 ≤ length links → exit ≡ put_link links count (2 * t + 1) j (2 * p) i
-          → Adds store (TiesAt p i) links exit count (count + 1) 2
+      send_put : (j : ℕ) (links exit : List Link) → OfState store (ArrivalIs t (p * name_base + c) (Some j)) → exit ≡ add_link links (2 * t + 1) j (2 * p) i → Adds store (TiesAt p i) links exit 2
       unfolding OfState ArrivalIs
-      send_put j links exit count found fits e = subst (λ r. Adds store (TiesAt p i) links r count (count + 1) 2) (sym e)
-          (adds_one links count (2 * t + 1) j (2 * p) i fits (TiesAt p i) 2 (omega arith)
+      send_put j links exit found e = subst (λ r. Adds store (TiesAt p i) links r 2) (sym e)
+          (adds_one links (2 * t + 1) j (2 * p) i (TiesAt p i) 2 (omega arith)
           (with_stands (λ s. Just (TiesAt p i s) (2 * t + 1) j (2 * p) i) λ s rest holds e g st.
           let (v, is) = target_at s rest holds e g st in
           let (same, low) = count_at s rest holds e g st in
           let (n, r, name) = found s rest holds in
           send_just holds.sound st is r (subst (λ z. Named p z n) same (name_of (arrived_small holds.sound r) low name))))
 
-      pub send_adds : (j x y : ℕ) (links exit : List ℕ) (count : ℕ) → x ≡ 2 * t + 1 → y ≡ 2 * p → OfState store (ArrivalIs t (p * name_base + c) (At j)) → 4 * count + 4 ≤ length links → exit ≡ put_link links count x j y i
-          → Adds store (TiesAt p i) links exit count (count + 1) 2
-      send_adds j x y links exit count e f found fits g = send_put j links exit count found fits (subst₂ (λ x y. exit ≡ put_link links count x j y i) e f g)
+      pub send_adds : (j : ℕ) (arrival own : Event) (links exit : List Link) → arrival ≡ event_at (2 * t + 1) j → own ≡ event_at (2 * p) i → OfState store (ArrivalIs t (p * name_base + c) (Some j)) → exit ≡ add_event links arrival own
+          → Adds store (TiesAt p i) links exit 2
+      send_adds j arrival own links exit e f found g = send_put j links exit found (g ∙ (λ k. add_event links (e k) (f k)))
 
-      pub send_adds_none : (links : List ℕ) (count : ℕ) → OfState store (ArrivalIs t (p * name_base + c) Nowhere) → Adds store (TiesAt p i) links links count count 2
+      pub send_adds_none : (links : List Link) → OfState store (ArrivalIs t (p * name_base + c) None) → Adds store (TiesAt p i) links links 2
       unfolding OfState ArrivalIs
-      send_adds_none links count found = adds_none (TiesAt p i) count 2
+      send_adds_none links found = adds_none (TiesAt p i) 2
           (with_stands (λ s. (x : Series) (a : ℕ) (y : Series) (b : ℕ) → ¬ TiesAt p i s x a y b) λ s rest holds e g st.
           let (v, is) = target_at s rest holds e g st in
           let (same, low) = count_at s rest holds e g st in
           send_none holds.sound st is (λ j n r m. found s rest holds j n r (name_back (subst (λ z. Named p z n) (sym same) m))))
 
-  pub other_adds : (k : ℕ) (links : List ℕ) (count : ℕ) → OfState store (OfEntry p i (λ e. k ≡ kind_number e.kind)) → ¬ (k ≡ kind_rec) → ¬ (k ≡ kind_send) → ¬ (k ≡ kind_spawn) → Adds store (TiesAt p i) links links count count 2
+  pub other_adds : (k : ℕ) (links : List Link) → OfState store (OfEntry p i (λ e. k ≡ kind_number e.kind)) → ¬ (k ≡ kind_rec) → ¬ (k ≡ kind_send) → ¬ (k ≡ kind_spawn) → Adds store (TiesAt p i) links links 2
   unfolding OfState OfEntry
-  other_adds k links count read a b c = adds_none (TiesAt p i) count 2
+  other_adds k links read a b c = adds_none (TiesAt p i) 2
       (with_stands (λ s. (x : Series) (a : ℕ) (y : Series) (b : ℕ) → ¬ TiesAt p i s x a y b) λ s rest holds e g st.
       let is = read s rest holds e (stands_entry st) in
       other_none holds.sound st (λ z. a (is ∙ z)) (λ z. b (is ∙ z)) (λ z. c (is ∙ z)))

@@ -9,17 +9,16 @@ use lib.Seq.{get_or-set_same, get_or-set_other}
 use Rattle.rules.specs.State.{State, history_at}
 use Rattle.rules.specs.Depends.{Series, entries_of, deliveries_to, level}
 use Rattle.rules.specs.Standing.{Stands}
-use Rattle.demands.proofs.EventDepends.{stands_low}
 use Rattle.demands.proofs.Cut.{place_of, place_below}
 use Rattle.store.specs.Image.{IsImage}
 use Rattle.store.proofs.SoundStates.{sizes_in_lem}
 use Rattle.reading.specs.Reads.{Holds, OfState, IsPlace, IsEntry}
 use Rattle.reading.proofs.Slotted.{entry_place}
-use Rattle.cuts.specs.Bounds.{most_places, most_entries, line_count, links_each, most_links, most_come}
-use Rattle.links.specs.declared.collecting.Sort.{Sort}
+use Rattle.cuts.specs.Bounds.{most_places, most_entries, line_count, links_of_sort, most_come}
+use Rattle.cuts.specs.declared.link.Link.{Link}
 use Rattle.cuts.specs.Links.{line_number, cut_in, sum_of, Levels, Ties, of_rec, of_since, of_send, of_child, of_mail, Aims, of_aim, Links}
-use Rattle.links.specs.Listed.{ComeCount, TiesAt, rec_at, since_at, send_at, child_at, mail_at, AimsAt, aim_at, OfSort, AtPlace, BelowPlace, AtAll, Adds}
-use Rattle.links.proofs.LinkAdds.{lists_kept, lists_as, adds_most}
+use Rattle.links.specs.Listed.{ComeCount, TiesAt, rec_at, since_at, send_at, child_at, mail_at, AimsAt, aim_at, ByEntry, AtPlace, BelowPlace, AtAll, Adds}
+use Rattle.links.proofs.LinkAdds.{lists_kept, lists_as}
 
 module _ (store : List ℕ) (is_image : IsImage store) where
   abbrev one : Holds store is_image.state is_image.rest
@@ -57,19 +56,7 @@ module _ (store : List ℕ) where
   unfolding OfState
   entry_is_place p i there-is s rest holds = entry_place s holds.sound p i (there-is s rest holds)
 
--- ---- ties and aims have their entries
-ties_inside : (p : ℕ) (s : State) (x : Series) (a : ℕ) (y : Series) (b j : ℕ) → TiesAt p j s x a y b → j < length (history_at s p)
-unfolding level
-ties_inside p s x a y b j (rec_at st is e) = stands_low st
-ties_inside p s x a y b j (since_at st is) = stands_low st
-ties_inside p s x a y b j (send_at r st is u v) = stands_low st
-ties_inside p s x a y b j (child_at st is) = stands_low st
-ties_inside p s x a y b j (mail_at st is) = stands_low st
-
-aims_inside : (p : ℕ) (s : State) (x : Series) (a : ℕ) (y : Series) (b j : ℕ) → AimsAt p j s x a y b → j < length (history_at s p)
-unfolding level
-aims_inside p s x a y b j (aim_at st is st' is') = stands_low st
-
+-- ---- ties and aims by their entries
 ties_from : {p i : ℕ} {s : State} {x y : Series} {a b : ℕ} → TiesAt p i s x a y b → Ties s x a y b
 ties_from (rec_at st is e) = of_rec st is e
 ties_from (since_at st is) = of_since st is
@@ -90,47 +77,30 @@ aims_from (aim_at st is st' is') = of_aim st is st' is'
 aims_to : {s : State} {x y : Series} {a b : ℕ} → Aims s x a y b → (p : ℕ) × (i : ℕ) × AimsAt p i s x a y b
 aims_to (of_aim {u} {j} st is st' is') = (u, j, aim_at st is st' is')
 
-pub sort_inside : (sort : Sort) (p : ℕ) (s : State) (x : Series) (a : ℕ) (y : Series) (b j : ℕ) → OfSort sort p j s x a y b → j < length (history_at s p)
-unfolding OfSort
-sort_inside Sort.Ties = ties_inside
-sort_inside Sort.Aims = aims_inside
-
--- the sort of an entry's links is known
-module _ {store l r : List ℕ} {p i from to : ℕ} (sort : Sort) where
-  pub sort_ties : sort ≡ Sort.Ties → Adds store (TiesAt p i) l r from to 2 → Adds store (OfSort sort p i) l r from to links_each
-  unfolding OfSort
-  sort_ties e u = subst (λ (z : Sort). Adds store (OfSort z p i) l r from to links_each) (sym e) u
-
-  pub sort_aims : sort ≡ Sort.Aims → Adds store (AimsAt p i) l r from to 1 → Adds store (OfSort sort p i) l r from to links_each
-  unfolding OfSort
-  sort_aims e u = subst (λ (z : Sort). Adds store (OfSort z p i) l r from to links_each) (sym e) (adds_most (omega arith) u)
-
 module _ (store : List ℕ) where
   -- the links of all places that there are are all links
-  pub place_all : (sort : Sort) (l r : List ℕ) (from to p end d : ℕ) → OfState store (λ s. end ≡ s.sizes.places) → end ≤ p → Adds store (BelowPlace (OfSort sort) p) l r from to d → Adds store (AtAll (OfSort sort)) l r from to d
+  pub place_all : (F : ByEntry) → ((p : ℕ) (s : State) (x : Series) (a : ℕ) (y : Series) (b j : ℕ) → F p j s x a y b → j < length (history_at s p)) → (l r : List Link) (p end d : ℕ) → OfState store (λ s. end ≡ s.sizes.places) → end ≤ p → Adds store (BelowPlace F p) l r d → Adds store (AtAll F) l r d
   unfolding OfState BelowPlace AtPlace AtAll
-  place_all sort l r from to p end d ends h u = record {
-    long = u.long;
+  place_all F inside l r p end d ends h u = record {
     same = u.same;
     low = u.low;
     high = u.high;
     lists = λ s rest holds. lists_as (λ x a y b (q, g, o). (q, o))
-        (λ x a y b (q, (j, o)). (q, (let low = entry_place s holds.sound q j (sort_inside sort q s x a y b j o) in omega (arith, low, ends s rest holds, h)), (j, o))) (u.lists s rest holds);
+        (λ x a y b (q, (j, o)). (q, (let low = entry_place s holds.sound q j (inside q s x a y b j o) in omega (arith, low, ends s rest holds, h)), (j, o))) (u.lists s rest holds);
   }
 
   -- both sorts, one behind the other
-  pub links_whole : (l m links : List ℕ) (few many d e : ℕ) → Adds store (AtAll (OfSort Sort.Ties)) l m 0 few d → Adds store (AtAll (OfSort Sort.Aims)) m links few many e → 4 * many ≤ length links → many ≤ most_links
-      → OfState store (λ s. Links s links few many)
-  unfolding OfState OfSort AtAll AtPlace
-  links_whole l m links few many d e ties aims long few-enough s rest holds =
-      let first = lists_kept m links few aims.same (ties.lists s rest holds) in
+  pub links_whole : (none m links : List Link) → none ≡ [] → Adds store (AtAll TiesAt) none m links_of_sort → Adds store (AtAll AimsAt) m links links_of_sort → OfState store (λ s. Links s links (length m))
+  unfolding OfState AtAll AtPlace
+  links_whole none m links none-is ties aims s rest holds =
+      let nil : length none ≡ 0 = ap length none-is in
+      let first = lists_kept m links (length m) aims.same (ties.lists s rest holds) in
       let then' = aims.lists s rest holds in
       record {
-        long = long;
-        most = few-enough;
+        most = omega (arith, ties.high, aims.high, nil);
         fewer = aims.low;
         tied = record {
-          each = λ k g. let says = first.each k (omega arith) g in record { from = says.from; first = says.first; on = says.on; second = says.second; is = says.is; holds = (let (q, (i, t)) = says.holds in ties_from t) };
+          each = λ k g. let says = first.each k (omega (arith, nil)) g in record { from = says.from; first = says.first; on = says.on; second = says.second; is = says.is; holds = (let (q, (i, t)) = says.holds in ties_from t) };
           all = λ x a y b t. let (q, i, o) = ties_to t in let z = first.all x a y b (q, (i, o)) in record { place = z.place; below = z.below; is = z.is };
         };
         each = λ k g i. let says = then'.each k g i in record { from = says.from; first = says.first; on = says.on; second = says.second; is = says.is; holds = (let (q, (j, t)) = says.holds in aims_from t) };

@@ -1,30 +1,28 @@
 -- The spawn of a place read from a store, and the link of a send with the spawn of its target.
+use Rattle.std.proofs.Common.{None, Some}
 use Prim.Native.Nat.{ℕ, ◌+◌, ◌*◌, ◌≤◌, ◌<◌}
-use mathlib.Core.Path.{◌≡◌, refl, sym, ◌∙◌, ap, subst, subst₂}
-use mathlib.Core.Bool.{Bool, true, false}
+use mathlib.Core.Path.{◌≡◌, refl, sym, ◌∙◌, ap, subst}
+use mathlib.Core.Bool.{Bool, true, false, ◌&&◌}
 use mathlib.Core.Option.{none, some}
 use mathlib.Core.List.{List}
 use native.Mathlib.Decide.{ℕ_discrete}
 use native.Mathlib.Omega.{arith}
 use lib.Dec.{eqb}
 use lib.ListN.{length}
-use Rattle.lists.proofs.Tests.{true_not_false, eqb_same}
+use Rattle.lists.proofs.Tests.{true_not_false, eqb_same, eqb_of, eqb_apart}
 use Rattle.rules.specs.State.{Kind, seq, send, rec, spawn, self, check, as_spawn, Entry, history_at, entry_at}
 use Rattle.rules.specs.Sound.{SpawnedBy}
 use Rattle.rules.specs.Depends.{Series, is_spawn_of}
 use Rattle.demands.proofs.EventDepends.{stands_entry, spawn_of}
 use Rattle.store.specs.Layout.{kind_number, number_in, kind_send, kind_spawn}
-use Rattle.store.specs.Image.{IsImage}
-use Rattle.store.proofs.SoundStates.{sizes_in_lem}
-use Rattle.reading.specs.Reads.{OfState, IsEntry, OfEntry, OfSend}
+use Rattle.kinds.specs.declared.Kind.TheVariants.{Spawn}
+use Rattle.reading.specs.Reads.{OfState, IsEntry, OfEntry, OfSend, is_numbered}
 use Rattle.reading.proofs.Oldest.{entry_exists}
 use Rattle.reading.proofs.Slotted.{entry_below, entry_place}
-use Rattle.reading.specs.declared.found.Found.TheVariants.{Nowhere, At}
-use Rattle.cuts.specs.Bounds.{most_places, most_entries}
-use Rattle.links.specs.declared.aims.Born.TheVariants as Born
-use Rattle.cuts.specs.Links.{put_link}
+use Rattle.cuts.specs.declared.events.Event.{Event}
+use Rattle.cuts.specs.declared.link.Link.{Link}
 use Rattle.links.specs.Listed.{IsKind, SpawnIn, BornBy, AimsAt, Adds}
-use Rattle.links.proofs.LinkAdds.{Just, adds_none, adds_one}
+use Rattle.links.proofs.LinkAdds.{event_at, add_event, Just, adds_none, adds_one}
 use Rattle.links.proofs.LinkReads.{spawn_kind, with_stands, target_at, aim_just, aim_none, unaimed}
 
 spawn_not : (kind : Kind) → ¬ (kind_number kind ≡ kind_spawn) → as_spawn kind ≡ none
@@ -44,15 +42,12 @@ is_some_lem : (q c : ℕ) (e : Entry) → as_spawn e.kind ≡ some c → is_spaw
 unfolding is_spawn_of
 is_some_lem q c e i = rw (i, is_spawn_of) refl
 
-module _ (store : List ℕ) (p i q k : ℕ) (read : OfState store (OfEntry p i (λ e. k ≡ kind_number e.kind))) where
-  pub is_spawn_no : ¬ (k ≡ kind_spawn) → OfState store (OfEntry p i (λ e. false ≡ is_spawn_of q (some e)))
-  unfolding OfState OfEntry
-  is_spawn_no n s rest holds e stands = sym (is_none_lem q e (spawn_not e.kind (λ z. n (read s rest holds e stands ∙ z))))
-
-  pub is_spawn_same : (number : ℕ) → k ≡ kind_spawn → OfState store (OfEntry p i (λ e. number ≡ number_in e.kind)) → OfState store (OfEntry p i (λ e. eqb number q ≡ is_spawn_of q (some e)))
-  unfolding OfState OfEntry
-  is_spawn_same number e numbered s rest holds f stands =
-      ap (λ n. eqb n q) (numbered s rest holds f stands) ∙ sym (is_some_lem q (number_in f.kind) f (spawn_kind f.kind (sym (read s rest holds f stands) ∙ e)))
+-- whether an entry is the spawn of a place, as the code asks
+numbered_spawn : (q : ℕ) (e : Entry) → is_numbered Spawn q e ≡ is_spawn_of q (some e)
+numbered_spawn q e = elim (ℕ_discrete (kind_number e.kind) kind_spawn) [
+  | no n ↦ ap (λ (b : Bool). b && eqb (number_in e.kind) q) (eqb_apart _ _ n) ∙ sym (is_none_lem q e (spawn_not e.kind n))
+  | yes y ↦ ap (λ (b : Bool). b && eqb (number_in e.kind) q) (eqb_of _ _ y) ∙ sym (is_some_lem q (number_in e.kind) e (spawn_kind e.kind y))
+]
 
 -- ---- along the entries of a place
 abbrev pub Unspawned : (store : List ℕ) (p q i : ℕ) → Type 0
@@ -63,21 +58,21 @@ module _ (store : List ℕ) (p q : ℕ) where
   unfolding OfState
   unspawned_start s rest holds j h b = omega (arith, h)
 
-  module _ (i : ℕ) (r : Bool) (read : OfState store (OfEntry p i (λ e. r ≡ is_spawn_of q (some e)))) where
-    pub spawn_here : OfState store (IsEntry p i) → r ≡ true → OfState store (SpawnIn p q (At i))
+  module _ (i : ℕ) (r : Bool) (read : OfState store (OfEntry p i (λ e. r ≡ is_numbered Spawn q e))) where
+    pub spawn_here : OfState store (IsEntry p i) → r ≡ true → OfState store (SpawnIn p q (Some i))
     unfolding OfState OfEntry SpawnIn
     spawn_here there-is yes' s rest holds =
         let (e, stands) = entry_exists (history_at s p) i (there-is s rest holds) in
-        record { entry = e; stands = stands; spawns = spawn_of q e (sym (read s rest holds e stands) ∙ yes') }
+        record { entry = e; stands = stands; spawns = spawn_of q e (sym (read s rest holds e stands ∙ numbered_spawn q e) ∙ yes') }
 
     pub unspawned_on : Unspawned store p q i → r ≡ false → Unspawned store p q (i + 1)
     unfolding OfState OfEntry
     unspawned_on before no' s rest holds j h b = elim (ℕ_discrete j i) [
       | no n ↦ before s rest holds j (omega (arith, h, n)) b
-      | yes e ↦ true_not_false (is_some_lem q q b.entry b.spawns ∙ eqb_same q) (sym (read s rest holds b.entry (subst (λ z. entry_at (history_at s p) z ≡ some b.entry) e b.stands)) ∙ no')
+      | yes e ↦ true_not_false (is_some_lem q q b.entry b.spawns ∙ eqb_same q) (sym (read s rest holds b.entry (subst (λ z. entry_at (history_at s p) z ≡ some b.entry) e b.stands) ∙ numbered_spawn q b.entry) ∙ no')
     ]
 
-  pub unspawned_all : (i end : ℕ) → OfState store (λ s. end ≡ length (history_at s p)) → end ≤ i → Unspawned store p q i → OfState store (SpawnIn p q Nowhere)
+  pub unspawned_all : (i end : ℕ) → OfState store (λ s. end ≡ length (history_at s p)) → end ≤ i → Unspawned store p q i → OfState store (SpawnIn p q None)
   unfolding OfState SpawnIn
   unspawned_all i end ends h before s rest holds j b = before s rest holds j (omega (arith, h, ends s rest holds, entry_below (history_at s p) j b.stands)) b
 
@@ -90,22 +85,22 @@ module _ (store : List ℕ) (q : ℕ) where
   unfolding OfState
   unborn_start s rest holds u h = absurd (omega (arith, h))
 
-  pub unborn_root : q ≡ 0 → OfState store (BornBy q Born.Nowhere)
+  pub unborn_root : q ≡ 0 → OfState store (BornBy q None)
   unfolding OfState BornBy
   unborn_root e s rest holds p i by = holds.sound.place_0_unborn p i (subst (λ z. SpawnedBy s z p i) e by)
 
-  pub born_here : (p i : ℕ) → OfState store (SpawnIn p q (At i)) → OfState store (BornBy q (Born.By p i))
+  pub born_here : (p i : ℕ) (event : Event) → OfState store (SpawnIn p q (Some i)) → event ≡ event_at (2 * p) i → OfState store (BornBy q (Some event))
   unfolding OfState SpawnIn BornBy
-  born_here p i found s rest holds = found s rest holds
+  born_here p i event found e s rest holds = (p, ap (λ z. z.line) e, subst (λ z. SpawnedBy s q p z) (sym (ap (λ z. z.index) e)) (found s rest holds))
 
-  pub unborn_on : (p : ℕ) → Unborn store q p → OfState store (SpawnIn p q Nowhere) → Unborn store q (p + 1)
+  pub unborn_on : (p : ℕ) → Unborn store q p → OfState store (SpawnIn p q None) → Unborn store q (p + 1)
   unfolding OfState SpawnIn
   unborn_on p before nowhere s rest holds u h j b = elim (ℕ_discrete u p) [
     | no n ↦ before s rest holds u (omega (arith, h, n)) j b
     | yes e ↦ nowhere s rest holds j (subst (λ z. SpawnedBy s q z j) e b)
   ]
 
-  pub unborn_all : (p end : ℕ) → OfState store (λ s. end ≡ s.sizes.places) → end ≤ p → Unborn store q p → OfState store (BornBy q Born.Nowhere)
+  pub unborn_all : (p end : ℕ) → OfState store (λ s. end ≡ s.sizes.places) → end ≤ p → Unborn store q p → OfState store (BornBy q None)
   unfolding OfState BornBy
   unborn_all p end ends h before s rest holds u j b =
       let low = entry_place s holds.sound u j (entry_below (history_at s u) j b.stands) in
@@ -114,38 +109,24 @@ module _ (store : List ℕ) (q : ℕ) where
 -- ---- the link of a send
 module _ (store : List ℕ) (p i : ℕ) (there-is : OfState store (IsEntry p i)) where
   module _ (t : ℕ) (kind : OfState store (IsKind p i kind_send)) (aimed : OfState store (OfSend p i (λ target value. t ≡ target))) where
-    aim_put : (u j : ℕ) (links exit : List ℕ) (count : ℕ) → OfState store (BornBy t (Born.By u j)) → 4 * count + 4 ≤ length links → exit ≡ put_link links count (2 * p) i (2 * u) j → Adds store (AimsAt p i) links exit count (count + 1) 1
+    pub aim_adds : (born own : Event) (links exit : List Link) → own ≡ event_at (2 * p) i → OfState store (BornBy t (Some born)) → exit ≡ add_event links own born → Adds store (AimsAt p i) links exit 1
     unfolding OfState BornBy
-    aim_put u j links exit count born fits e = subst (λ r. Adds store (AimsAt p i) links r count (count + 1) 1) (sym e)
-        (adds_one links count (2 * p) i (2 * u) j fits (AimsAt p i) 1 (omega arith)
-        (with_stands store p i there-is (λ s. Just (AimsAt p i s) (2 * p) i (2 * u) j) λ s rest holds e g st.
-        let (v, is) = target_at store p i there-is t 0 kind aimed s rest holds e g st in
-        aim_just holds.sound st is (born s rest holds)))
+    aim_adds born own links exit own-is born-is e = subst (λ r. Adds store (AimsAt p i) links r 1) (sym (e ∙ ap (λ z. add_event links z born) own-is))
+        (adds_one links (2 * p) i born.line born.index (AimsAt p i) 1 (omega arith)
+        (with_stands store p i there-is (λ s. Just (AimsAt p i s) (2 * p) i born.line born.index) λ s rest holds f g st.
+        let (v, is) = target_at store p i there-is t 0 kind aimed s rest holds f g st in
+        let (u, other, by) = born-is s rest holds in
+        subst (λ y. Just (AimsAt p i s) (2 * p) i y born.index) (sym other) (aim_just holds.sound st is by)))
 
-    pub aim_adds : (u j x y : ℕ) (links exit : List ℕ) (count : ℕ) → x ≡ 2 * p → y ≡ 2 * u → OfState store (BornBy t (Born.By u j)) → 4 * count + 4 ≤ length links → exit ≡ put_link links count x i y j
-        → Adds store (AimsAt p i) links exit count (count + 1) 1
-    aim_adds u j x y links exit count e f born fits g = aim_put u j links exit count born fits (subst₂ (λ x y. exit ≡ put_link links count x i y j) e f g)
-
-    pub aim_adds_none : (links : List ℕ) (count : ℕ) → OfState store (BornBy t Born.Nowhere) → Adds store (AimsAt p i) links links count count 1
+    pub aim_adds_none : (links : List Link) → OfState store (BornBy t None) → Adds store (AimsAt p i) links links 1
     unfolding OfState BornBy
-    aim_adds_none links count born = adds_none (AimsAt p i) count 1
+    aim_adds_none links born = adds_none (AimsAt p i) 1
         (with_stands store p i there-is (λ s. (x : Series) (a : ℕ) (y : Series) (b : ℕ) → ¬ AimsAt p i s x a y b) λ s rest holds e g st.
         let (v, is) = target_at store p i there-is t 0 kind aimed s rest holds e g st in
         aim_none holds.sound st is (born s rest holds))
 
-  pub aim_other : (k : ℕ) (links : List ℕ) (count : ℕ) → OfState store (OfEntry p i (λ e. k ≡ kind_number e.kind)) → ¬ (k ≡ kind_send) → Adds store (AimsAt p i) links links count count 1
+  pub aim_other : (k : ℕ) (links : List Link) → OfState store (OfEntry p i (λ e. k ≡ kind_number e.kind)) → ¬ (k ≡ kind_send) → Adds store (AimsAt p i) links links 1
   unfolding OfState OfEntry
-  aim_other k links count read n = adds_none (AimsAt p i) count 1
+  aim_other k links read n = adds_none (AimsAt p i) 1
       (with_stands store p i there-is (λ s. (x : Series) (a : ℕ) (y : Series) (b : ℕ) → ¬ AimsAt p i s x a y b) λ s rest holds e g st.
       unaimed holds.sound st (λ z. n (read s rest holds e (stands_entry st) ∙ z)))
-
--- a spawn stands at a place that there is
-pub born_low : (store : List ℕ) (q u j : ℕ) → IsImage store → OfState store (BornBy q (Born.By u j)) → (u < most_places) × (j < most_entries)
-unfolding OfState BornBy
-born_low store q u j is_image born =
-    let s = is_image.state in
-    let b = born s is_image.rest (record { sound = is_image.sound; words = is_image.words }) in
-    let below = entry_below (history_at s u) j b.stands in
-    let place = entry_place s is_image.sound u j below in
-    let sizes = sizes_in_lem s.sizes is_image.sound.sizes_pass in
-    (omega (arith, place, sizes.places_high), omega (arith, below, is_image.sound.history_fits u, sizes.entries_high))

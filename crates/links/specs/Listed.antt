@@ -1,5 +1,5 @@
 -- What the functions answer that read the numbers of a state from its store.
-use Rattle.std.specs.Prelude.{ℕ, suc, ◌+◌, ◌*◌, ◌≤◌, ◌<◌, ◌≡◌, List, length, get_or}
+use Rattle.std.specs.Prelude.{ℕ, suc, ◌+◌, ◌≤◌, ◌<◌, ◌≡◌, List, length, get_or, Option, None, Some}
 use Rattle.std.proofs.Math.Option.{some}
 use Rattle.rules.specs.State.{Message, letter, taking, as_send, as_rec, as_spawn, Entry, State, history_at, entry_at}
 use Rattle.rules.specs.Flight.{sends, left_or}
@@ -8,12 +8,10 @@ use Rattle.rules.specs.Depends.{Series, entries_of, deliveries_to, level}
 use Rattle.rules.specs.Standing.{Stands, Arrives, seen}
 use Rattle.store.specs.Layout.{kind_number, name_word}
 use Rattle.reading.specs.Reads.{OfState, OfEntry}
-use Rattle.reading.specs.declared.found.Found.{Found}
-use Rattle.reading.specs.declared.found.Found.TheVariants.{Nowhere, At}
-use Rattle.links.specs.declared.aims.Born.{Born}
-use Rattle.links.specs.declared.collecting.Sort.{Sort}
-use Rattle.cuts.specs.Bounds.{link_size, most_come}
-use Rattle.cuts.specs.Links.{LinkAt, Says}
+use Rattle.cuts.specs.declared.events.Event.{Event}
+use Rattle.cuts.specs.Bounds.{most_come}
+use Rattle.cuts.specs.declared.link.Link.{Link}
+use Rattle.cuts.specs.Links.{LinkAt, Says, line_number, no_link}
 
 -- entry i of p is of that kind
 abbrev pub IsKind : (p i kind : ℕ) → State → Type 0
@@ -26,14 +24,14 @@ OfRec p i P s = (e : Entry) (g : List Entry) (a : List Message) (m : Message) (d
 -- ---- arrivals
 
 -- where a name stands among names, from a place on
-unfoldable pub PlaceFrom : (names : List ℕ) (from name : ℕ) → Found → Type 0
-PlaceFrom names from name Nowhere = (j : ℕ) → from ≤ j → j < length names → ¬ (get_or names j 0 ≡ name)
-PlaceFrom names from name (At j) = (from ≤ j) × (j < length names) × (get_or names j 0 ≡ name)
+abbrev pub PlaceFrom : (names : List ℕ) (from name : ℕ) → Option ℕ → Type 0
+PlaceFrom names from name None = (j : ℕ) → from ≤ j → j < length names → ¬ (get_or names j 0 ≡ name)
+PlaceFrom names from name (Some j) = (from ≤ j) × (j < length names) × (get_or names j 0 ≡ name)
 
 -- which arrival at q has that name
-unfoldable pub ArrivalIs : (q name : ℕ) → Found → State → Type 0
-ArrivalIs q name Nowhere s = (j : ℕ) (n : Message) → Arrives s q j n → ¬ (name_word n ≡ name)
-ArrivalIs q name (At j) s = (n : Message) × Arrives s q j n × (name_word n ≡ name)
+unfoldable pub ArrivalIs : (q name : ℕ) → Option ℕ → State → Type 0
+ArrivalIs q name None s = (j : ℕ) (n : Message) → Arrives s q j n → ¬ (name_word n ≡ name)
+ArrivalIs q name (Some j) s = (n : Message) × Arrives s q j n × (name_word n ≡ name)
 
 -- how many messages have come to p, which are not too many
 pub record ComeCount (p n : ℕ) (s : State) : Type 0 where
@@ -46,13 +44,13 @@ LeftAt q i before n s = (e : Entry) → entry_at (history_at s q) i ≡ some e �
 
 -- ---- the spawn of a place
 
-unfoldable pub SpawnIn : (p q : ℕ) → Found → State → Type 0
-SpawnIn p q Nowhere s = (i : ℕ) → ¬ SpawnedBy s q p i
-SpawnIn p q (At i) s = SpawnedBy s q p i
+unfoldable pub SpawnIn : (p q : ℕ) → Option ℕ → State → Type 0
+SpawnIn p q None s = (i : ℕ) → ¬ SpawnedBy s q p i
+SpawnIn p q (Some i) s = SpawnedBy s q p i
 
-unfoldable pub BornBy : (q : ℕ) → Born → State → Type 0
-BornBy q Born.Nowhere s = (p i : ℕ) → ¬ SpawnedBy s q p i
-BornBy q (Born.By p i) s = SpawnedBy s q p i
+unfoldable pub BornBy : (q : ℕ) → Option Event → State → Type 0
+BornBy q None s = (p i : ℕ) → ¬ SpawnedBy s q p i
+BornBy q (Some e) s = (p : ℕ) × (e.line ≡ line_number (entries_of p)) × SpawnedBy s q p e.index
 
 -- ---- links
 
@@ -78,11 +76,6 @@ Links4 = Series → ℕ → Series → ℕ → Type 0
 abbrev pub ByEntry : Type 1
 ByEntry = ℕ → ℕ → State → Links4
 
--- the links of a sort
-unfoldable pub OfSort : Sort → ByEntry
-OfSort Sort.Ties = TiesAt
-OfSort Sort.Aims = AimsAt
-
 -- what the entries of p below i have, all entries of p, all entries of places below p, all entries
 unfoldable pub Below : ByEntry → (p i : ℕ) → State → Links4
 Below F p i s x a y b = (j : ℕ) × (j < i) × F p j s x a y b
@@ -97,20 +90,19 @@ unfoldable pub AtAll : ByEntry → State → Links4
 AtAll F s x a y b = (p : ℕ) × AtPlace F p s x a y b
 
 -- the links from one number to another are just these
-pub record LinkedIn (links : List ℕ) (from to : ℕ) (x : Series) (a : ℕ) (y : Series) (b : ℕ) : Type 0 where
+pub record LinkedIn (links : List Link) (from to : ℕ) (x : Series) (a : ℕ) (y : Series) (b : ℕ) : Type 0 where
   pub place : ℕ
   pub over : from ≤ place
   pub below : place < to
   pub is : LinkAt links place x a y b
 
-pub record Lists (Of : Series → ℕ → Series → ℕ → Type 0) (links : List ℕ) (from to : ℕ) : Type 0 where
+pub record Lists (Of : Series → ℕ → Series → ℕ → Type 0) (links : List Link) (from to : ℕ) : Type 0 where
   pub each : (k : ℕ) → from ≤ k → k < to → Says Of links k
   pub all : (x : Series) (a : ℕ) (y : Series) (b : ℕ) → Of x a y b → LinkedIn links from to x a y b
 
 -- links are put behind those that there are
-pub record Adds (store : List ℕ) (Of : State → Series → ℕ → Series → ℕ → Type 0) (before after : List ℕ) (from to most : ℕ) : Type 0 where
-  pub long : length after ≡ length before
-  pub same : (j : ℕ) → j < link_size * from → get_or after j 0 ≡ get_or before j 0
-  pub low : from ≤ to
-  pub high : to ≤ from + most
-  pub lists : OfState store (λ s. Lists (Of s) after from to)
+pub record Adds (store : List ℕ) (Of : State → Series → ℕ → Series → ℕ → Type 0) (before after : List Link) (most : ℕ) : Type 0 where
+  pub same : (j : ℕ) → j < length before → get_or after j no_link ≡ get_or before j no_link
+  pub low : length before ≤ length after
+  pub high : length after ≤ length before + most
+  pub lists : OfState store (λ s. Lists (Of s) after (length before) (length after))

@@ -1,4 +1,5 @@
 -- Laws of the messages in flight of a listing.
+use Rattle.std.proofs.Common.{Option, None, Some}
 use Prim.Native.Nat.{ℕ, ◌+◌, ◌-◌, ◌*◌, ◌/◌, ◌%◌, ◌≤◌, ◌<◌}
 use mathlib.Core.Path.{◌≡◌, refl, sym, ◌∙◌, ap}
 use mathlib.Core.Bool.{Bool, true, false, not}
@@ -18,11 +19,10 @@ use Rattle.store.specs.Image.{IsImage}
 use Rattle.store.specs.Layout.{most_entries, name_base}
 use Rattle.store.proofs.SoundStates.{sizes_in_lem, in_places}
 use Rattle.store.proofs.Histories.{sends_few, sent_below}
+use Rattle.std.specs.Int.{from_bool}
 use Rattle.text.specs.Written.{far, onward, Wrote, gap}
 use Rattle.text.proofs.WritingLaws.{wrote_none, wrote_then, wrote_line}
 use Rattle.reading.specs.Reads.{OfState, IsPlace, IsSend, OfSend, SendAt, oldest, SendFound}
-use Rattle.reading.specs.declared.found.Found.{Found}
-use Rattle.reading.specs.declared.found.Found.TheVariants.{Nowhere, At}
 use Rattle.listing.specs.declared.flying.Row.{Row}
 use Rattle.listing.specs.Listed.{follow, behind, Followed, name_if, flying_texts, flying_line}
 use Rattle.reading.proofs.Holding.{at_image}
@@ -32,7 +32,7 @@ use Rattle.listing.proofs.ProcessLaws.{kept_next, kept_same}
 -- ---- whether a message is in flight
 
 -- the send that was found
-sent_at : (s : State) (p k i : ℕ) (r : Found) → r ≡ At i → SendFound (history_at s p) k r → SendAt p k i s
+sent_at : (s : State) (p k i : ℕ) (r : Option ℕ) → r ≡ Some i → SendFound (history_at s p) k r → SendAt p k i s
 sent_at s p k i r e f = found_at s p k i (rw e at f)
 
 -- counts of sends are small
@@ -44,13 +44,13 @@ flies_so : (s : State) (p k t : ℕ) (v : List ℕ) (b : Bool) → Sound s → s
 unfolding is_flying flies
 flies_so s p k t v b x e h = rw (e, x.targets_in_pool p k t v e, h, is_flying, flies) refl
 
-module _ (l : List ℕ) (p k : ℕ) (r : Found) (found : OfState l (λ s. SendFound (history_at s p) k r)) where
+module _ (l : List ℕ) (p k : ℕ) (r : Option ℕ) (found : OfState l (λ s. SendFound (history_at s p) k r)) where
   -- no such send
-  pub not_sent : r ≡ Nowhere → OfState l (λ s. false ≡ is_flying s p k)
+  pub not_sent : r ≡ None → OfState l (λ s. false ≡ is_flying s p k)
   unfolding OfState SendFound is_flying
   not_sent e s rest x = let n : sent (history_at s p) k ≡ none = (let f = found s rest x in rw e at f) in rw (n, is_flying) refl
 
-  module _ (i : ℕ) (at : r ≡ At i) where
+  module _ (i : ℕ) (at : r ≡ Some i) where
     pub is_send : OfState l (IsSend p i)
     unfolding OfState
     is_send s rest x = let f = sent_at s p k i r at (found s rest x) in record { entry = f.entry; target = f.target; value = f.value; stands = f.stands; is_send = f.is_send }
@@ -79,27 +79,27 @@ module _ (l : List ℕ) (p k : ℕ) (r : Found) (found : OfState l (λ s. SendFo
 
 -- ---- rows of names
 
-follow_append : (before : ℕ) (xs ys : List (List ℕ)) → follow before (xs ++ ys) ≡ follow before xs ++ follow (behind before xs) ys
+follow_append : (begun : Bool) (xs ys : List (List ℕ)) → follow begun (xs ++ ys) ≡ follow begun xs ++ follow (behind begun xs) ys
 unfolding follow behind
-follow_append before [] ys = refl
-follow_append before (x ∷ xs) ys = ap (λ (r : List ℕ). gap before ++ x ++ r) (follow_append 1 xs ys ∙ ap (λ (b : ℕ). follow 1 xs ++ follow b ys) (behind_one xs)) ∙ sym (append_assoc (gap before ++ x) (follow 1 xs) (follow 1 ys))
+follow_append begun [] ys = refl
+follow_append begun (x ∷ xs) ys = ap (λ (r : List ℕ). gap (from_bool begun) ++ x ++ r) (follow_append true xs ys ∙ ap (λ (b : Bool). follow true xs ++ follow b ys) (behind_one xs)) ∙ sym (append_assoc (gap (from_bool begun) ++ x) (follow true xs) (follow true ys))
   where
-    behind_one : (xs : List (List ℕ)) → behind 1 xs ≡ 1
+    behind_one : (xs : List (List ℕ)) → behind true xs ≡ true
     behind_one [] = refl
     behind_one (x ∷ xs) = refl
 
-behind_append : (before : ℕ) (xs ys : List (List ℕ)) → behind before (xs ++ ys) ≡ behind (behind before xs) ys
+behind_append : (begun : Bool) (xs ys : List (List ℕ)) → behind begun (xs ++ ys) ≡ behind (behind begun xs) ys
 unfolding behind
-behind_append before [] ys = refl
-behind_append before (x ∷ xs) [] = refl
-behind_append before (x ∷ xs) (y ∷ ys) = refl
+behind_append begun [] ys = refl
+behind_append begun (x ∷ xs) [] = refl
+behind_append begun (x ∷ xs) (y ∷ ys) = refl
 
-spaced_follow : (x : List ℕ) (xs : List (List ℕ)) → spaced (x ∷ xs) ≡ x ++ follow 1 xs
+spaced_follow : (x : List ℕ) (xs : List (List ℕ)) → spaced (x ∷ xs) ≡ x ++ follow true xs
 unfolding spaced follow gap
 spaced_follow x [] = sym (append-nil x)
 spaced_follow x (y ∷ ys) = ap (λ (r : List ℕ). x ++ (space ∷ r)) (spaced_follow y ys)
 
-spaced_is : (xs : List (List ℕ)) → follow 0 xs ≡ spaced xs
+spaced_is : (xs : List (List ℕ)) → follow false xs ≡ spaced xs
 unfolding spaced follow gap
 spaced_is [] = refl
 spaced_is (x ∷ xs) = sym (spaced_follow x xs)
@@ -107,28 +107,28 @@ spaced_is (x ∷ xs) = sym (spaced_follow x xs)
 -- pieces and then others
 followed_then : (xs ys : List (List ℕ)) (from mid to : Row) (old new newer : List ℕ) → Followed xs from old new mid → Followed ys mid new newer to → Followed (xs ++ ys) from old newer to
 followed_then xs ys from mid to old new newer f g = record {
-  wrote = rw (follow_append from.before xs ys) (wrote_then f.wrote (rw f.is_behind at g.wrote));
-  is_behind = g.is_behind ∙ ap (λ (b : ℕ). behind b ys) f.is_behind ∙ sym (behind_append from.before xs ys);
+  wrote = rw (follow_append from.begun xs ys) (wrote_then f.wrote (rw f.is_behind at g.wrote));
+  is_behind = g.is_behind ∙ ap (λ (b : Bool). behind b ys) f.is_behind ∙ sym (behind_append from.begun xs ys);
 }
 
-followed_none : (from to : Row) (old : List ℕ) → to.to ≡ onward (from.to + 0) → to.before ≡ from.before → length old < far → Followed [] from old old to
+followed_none : (from to : Row) (old : List ℕ) → to.to ≡ onward (from.to + 0) → to.begun ≡ from.begun → length old < far → Followed [] from old old to
 unfolding follow behind
 followed_none from to old e b short = record { wrote = wrote_none old from.to to.to e short; is_behind = b }
 
-followed_one : (x : List ℕ) (from to : Row) (old mid new : List ℕ) (next : ℕ) → Wrote (gap from.before) from.to old mid next → Wrote x next mid new to.to → to.before ≡ 1 → Followed (x ∷ []) from old new to
+followed_one : (x : List ℕ) (from to : Row) (old mid new : List ℕ) (next : ℕ) → Wrote (gap (from_bool from.begun)) from.to old mid next → Wrote x next mid new to.to → to.begun ≡ true → Followed (x ∷ []) from old new to
 unfolding follow behind
-followed_one x from to old mid new next g w b = record { wrote = rw (append-nil (gap from.before ++ x)) (wrote_then g w); is_behind = b }
+followed_one x from to old mid new next g w b = record { wrote = rw (append-nil (gap (from_bool from.begun) ++ x)) (wrote_then g w); is_behind = b }
 
 -- ---- one name
 
 module _ (l : List ℕ) (s k : ℕ) (b : Bool) (flying : OfState l (λ state. b ≡ is_flying state s k)) (from to : Row) (old : List ℕ) where
-  pub name_not : b ≡ false → to.to ≡ onward (from.to + 0) → to.before ≡ from.before → length old < far → OfState l (λ state. Followed (name_if (is_flying state s k) s k) from old old to)
+  pub name_not : b ≡ false → to.to ≡ onward (from.to + 0) → to.begun ≡ from.begun → length old < far → OfState l (λ state. Followed (name_if (is_flying state s k) s k) from old old to)
   unfolding OfState name_if
   name_not e r q short state rest x = rw (sym (flying state rest x) ∙ e, name_if) (followed_none from to old r q short)
 
-  pub name_so : (mid new : List ℕ) (next : ℕ) → b ≡ true → Wrote (gap from.before) from.to old mid next → Wrote (name_text s k) next mid new to.to → to.before ≡ 1 → OfState l (λ state. Followed (name_if (is_flying state s k) s k) from old new to)
+  pub name_so : (mid new : List ℕ) (next piece : ℕ) → b ≡ true → piece ≡ from_bool from.begun → Wrote (gap piece) from.to old mid next → Wrote (name_text s k) next mid new to.to → to.begun ≡ true → OfState l (λ state. Followed (name_if (is_flying state s k) s k) from old new to)
   unfolding OfState name_if
-  name_so mid new next e g w q state rest x = rw (sym (flying state rest x) ∙ e, name_if) (followed_one (name_text s k) from to old mid new next g w q)
+  name_so mid new next piece e is g w q state rest x = rw (sym (flying state rest x) ∙ e, name_if) (followed_one (name_text s k) from to old mid new next (rw is at g) w q)
 
 -- ---- the names of one sender
 
@@ -171,7 +171,7 @@ module _ (l : List ℕ) (s : ℕ) (first : Row) where
       rw (names_next state s k) at (followed_then (names_below state s k) (name_if (is_flying state s k) s k) first row next old mid new (f state rest x) (g state rest x))
 
   pub names_all : (i k end : ℕ) (old new : List ℕ) (from row : Row) → OfState l (λ state. i ≡ length (history_at state s)) → OfState l (λ state. end ≡ sends (oldest i (history_at state s))) → k ≡ end
-      → first.to ≡ onward (from.to + 0) → first.before ≡ from.before → length old < far
+      → first.to ≡ onward (from.to + 0) → first.begun ≡ from.begun → length old < far
       → OfState l (λ state. Followed (names_below state s k) first old new row) → OfState l (λ state. Followed (map flight_text (flight_of state s)) from old new row)
   unfolding OfState flight_of names_below
   names_all i k end old new from row h n e at before short f state rest x =
@@ -201,7 +201,7 @@ module _ (l : List ℕ) (first : Row) where
       rw (texts_next state s) at (followed_then (flying_texts state s) (map flight_text (flight_of state s)) first row next old mid new (f state rest x) (g state rest x))
 
   pub senders_all : (s end : ℕ) (old new : List ℕ) (from row : Row) → OfState l (λ state. end ≡ state.sizes.places) → s ≡ end
-      → first.to ≡ onward (from.to + 0) → first.before ≡ from.before → length old < far
+      → first.to ≡ onward (from.to + 0) → first.begun ≡ from.begun → length old < far
       → OfState l (λ state. Followed (flying_texts state s) first old new row) → OfState l (λ state. Followed (flying_texts state state.sizes.places) from old new row)
   unfolding OfState
   senders_all s end old new from row n e at before short f state rest x =
@@ -209,7 +209,7 @@ module _ (l : List ℕ) (first : Row) where
 
 -- ---- the line
 
-pub flight_line : (l : List ℕ) (old mid mid' new : List ℕ) (at end : ℕ) (from row : Row) → Wrote (bytes "flight=") at old mid from.to → from.before ≡ 0
+pub flight_line : (l : List ℕ) (old mid mid' new : List ℕ) (at end : ℕ) (from row : Row) → Wrote (bytes "flight=") at old mid from.to → from.begun ≡ false
     → OfState l (λ state. Followed (flying_texts state state.sizes.places) from mid mid' row) → Wrote (line_feed ∷ []) row.to mid' new end → OfState l (λ state. Wrote (flying_line state) at old new end)
 unfolding OfState flying_line line flight flying_texts
 flight_line l old mid mid' new at end from row w b f v state rest x =

@@ -5,6 +5,7 @@ use mathlib.Core.Bool.{Bool, false}
 use mathlib.Core.List.{List, [], ◌∷◌, ◌++◌}
 use native.Mathlib.Omega.{arith}
 use lib.ListN.{length, drop}
+use Rattle.std.specs.Prelude.{Ok, Err}
 use Rattle.lists.specs.Lists.{keep, up_to}
 use Rattle.lists.specs.Decides.{Decides}
 use Rattle.lists.proofs.Tests.{leb_of, leb_over, choose_true, choose_false}
@@ -15,7 +16,7 @@ use Rattle.rules.specs.Listing.{listing}
 use Rattle.store.specs.Image.{IsImage}
 use Rattle.calls.specs.Calls.{outcome, written, ListingCall}
 use Rattle.calls.specs.Numbers.{number_of, value_of, Lists}
-use Rattle.calls.specs.declared.answers.Answer.TheVariants.{Done, NotAState, NoRoom}
+use Rattle.calls.specs.declared.answers.Refusal.TheVariants.{NotAState, NoRoom}
 use Rattle.text.specs.Written.{far, Wrote}
 use Rattle.text.specs.Lines.{processes_line}
 use Rattle.text.proofs.WritingLaws.{wrote_then, wrote_length, wrote_fits, measured_fits, measured_over}
@@ -33,7 +34,7 @@ whole_listing l count b b' e old mid mid' new n w v f s rest x = wrote_then (wro
 -- ---- the answers
 
 module _ (l out : List ℕ) where
-  pub lists_no_state : (b : Bool) → Decides (IsImage l) b → b ≡ false → Lists l out out NotAState
+  pub lists_no_state : (b : Bool) → Decides (IsImage l) b → b ≡ false → Lists l out out (Err NotAState)
   unfolding Lists ListingCall number_of value_of
   lists_no_state b d e = without_state (refuted d e)
 
@@ -46,7 +47,7 @@ module _ (l out : List ℕ) where
         go [] e = refl
         go (x ∷ xs) e = absurd (omega arith)
 
-    pub lists_no_room : length out < measured → Lists l out (part ++ out) NoRoom
+    pub lists_no_room : length out < measured → Lists l out (part ++ out) (Err NoRoom)
     unfolding Lists ListingCall OfState number_of value_of written
     lists_no_room h = rw nothing (with_state is λ s rest x.
         let over = measured_over (length-is s rest x) short h in
@@ -57,7 +58,7 @@ module _ (l out : List ℕ) where
         let w = at_image (λ s. Wrote (listing s) 0 room part measured) is length-is in
         omega (arith, measured_fits w short h, listing_most is.state is.sound)
 
-    pub lists_all : (new : List ℕ) (end : ℕ) → measured ≤ length out → OfState l (λ s. Wrote (listing s) 0 (part ++ out) new end) → Lists l out new (Done measured)
+    pub lists_all : (new : List ℕ) (end : ℕ) → measured ≤ length out → OfState l (λ s. Wrote (listing s) 0 (part ++ out) new end) → Lists l out new (Ok measured)
     unfolding Lists ListingCall OfState number_of value_of written
     lists_all new end h f = with_state is λ s rest x. so s (length-is s rest x) (rw nothing at (f s rest x))
       where

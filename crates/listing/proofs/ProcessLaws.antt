@@ -1,16 +1,17 @@
 -- Laws of the processes of a listing.
+use Rattle.std.proofs.Common.{Option, None, Some}
 use Prim.Native.Nat.{ℕ, ◌+◌, ◌-◌, ◌<◌}
 use Prim.Native.String.{String}
 use mathlib.Core.Path.{◌≡◌, refl, sym, ◌∙◌, ap}
 use mathlib.Core.Bool.{Bool, true, false, cond}
-use mathlib.Core.Option.{Option, some}
+use mathlib.Core.Option.{Option as Maybe, some}
 use mathlib.Core.List.{List, [], ◌∷◌, ◌++◌, map}
 use native.Mathlib.Omega.{arith}
 use native.Mathlib.Numerals.{add-one}
 use lib.Dec.{eqb}
 use lib.ListN.{length, length-append}
 use Rattle.lists.specs.Lists.{All, keep, joined, up_to}
-use Rattle.lists.proofs.Tests.{eqb_of, eqb_apart, cond_true}
+use Rattle.lists.proofs.Tests.{eqb_of, cond_true}
 use Rattle.lists.proofs.Lists.{keep_nil, keep_true, keep_false, keep_append}
 use Rattle.lists.proofs.All.{maps_after, map_agree, all_so}
 use Rattle.rules.specs.State.{Message, Kind, seq, send, rec, spawn, self, check, Entry, Process, State, history_of, history_at, entry_at, in_pool}
@@ -21,12 +22,12 @@ use Rattle.store.proofs.SoundStates.{storable}
 use Rattle.store.proofs.Restoring.{Kept}
 use Rattle.text.specs.Lines.{name_in, newest_text, process_text}
 use Rattle.text.specs.Written.{far, onward, Wrote}
-use Rattle.text.specs.declared.listing.Newest.{Newest}
-use Rattle.text.specs.declared.listing.Newest.TheVariants.{Seq, Send, Rec, Spawn, Own, Check, Nothing}
+use Rattle.kinds.specs.declared.Kind.{Kind as EntryKind}
+use Rattle.kinds.specs.declared.Kind.TheVariants.{Seq, Send, Rec, Spawn, Own, Check}
 use Rattle.text.proofs.WritingLaws.{wrote_none}
 use Rattle.text.proofs.ListingLaws.{name_in_lem, process_lines_lem, wrote_place}
-use Rattle.reading.specs.Reads.{OfState, control_of, control_at, IsEntry, OfEntry}
-use Rattle.listing.specs.Listed.{Named, places_text}
+use Rattle.reading.specs.Reads.{OfState, control_of, control_at, IsEntry, OfEntry, number_of}
+use Rattle.listing.specs.Listed.{places_text}
 
 -- ---- kinds
 
@@ -43,50 +44,33 @@ name_at_lem (spawn child) = refl
 name_at_lem self = refl
 name_at_lem (check number) = refl
 
-named_by : (kind : ℕ) (r : Newest) → newest_text r ≡ name_at kind → Named kind r
-unfolding Named
-named_by kind r e k n = e ∙ ap name_at n ∙ name_at_lem k
-
-pub named_seq : {kind : ℕ} → kind ≡ 1 → Named kind Seq
+name_of : (r : EntryKind) → newest_text (Some r) ≡ name_at (number_of r)
 unfolding name_at newest_text
-named_seq {kind} e = named_by kind Seq (ap name_at (sym e))
+name_of Seq = refl
+name_of Send = refl
+name_of Rec = refl
+name_of Spawn = refl
+name_of Own = refl
+name_of Check = refl
 
-pub named_send : {kind : ℕ} → kind ≡ 2 → Named kind Send
-unfolding name_at newest_text
-named_send {kind} e = named_by kind Send (ap name_at (sym e))
-
-pub named_rec : {kind : ℕ} → kind ≡ 3 → Named kind Rec
-unfolding name_at newest_text
-named_rec {kind} e = named_by kind Rec (ap name_at (sym e))
-
-pub named_spawn : {kind : ℕ} → kind ≡ 4 → Named kind Spawn
-unfolding name_at newest_text
-named_spawn {kind} e = named_by kind Spawn (ap name_at (sym e))
-
-pub named_self : {kind : ℕ} → kind ≡ 5 → Named kind Own
-unfolding name_at newest_text
-named_self {kind} e = named_by kind Own (ap name_at (sym e))
-
-pub named_check : (kind : ℕ) → ¬ (kind ≡ 1) → ¬ (kind ≡ 2) → ¬ (kind ≡ 3) → ¬ (kind ≡ 4) → ¬ (kind ≡ 5) → Named kind Check
-unfolding name_at newest_text
-named_check kind a b c d e =
-    named_by kind Check (rw (eqb_apart kind 1 a, eqb_apart kind 2 b, eqb_apart kind 3 c, eqb_apart kind 4 d, eqb_apart kind 5 e, name_at) refl)
+named : (r : EntryKind) (k : Kind) → number_of r ≡ kind_number k → newest_text (Some r) ≡ kind_name k
+named r k e = name_of r ∙ ap name_at e ∙ name_at_lem k
 
 -- ---- the newest entry
 
-newest_of : (h : List Entry) (count kind : ℕ) (r : Newest) → count ≡ length h → ¬ (count ≡ 0) → ((e : Entry) → entry_at h (count - 1) ≡ some e → kind ≡ kind_number e.kind) → Named kind r
-    → newest_text r ≡ newest_name h
-unfolding newest_name entry_at Named
-newest_of [] count kind r n z f x = absurd (z n)
-newest_of (e ∷ older) count kind r n z f x =
-    x e.kind (f e (cond_true (some e) (entry_at older (count - 1)) (eqb_of (length older) (count - 1) (omega arith))))
+newest_of : (h : List Entry) (count : ℕ) (r : EntryKind) → count ≡ length h → ¬ (count ≡ 0) → ((e : Entry) → entry_at h (count - 1) ≡ some e → number_of r ≡ kind_number e.kind)
+    → newest_text (Some r) ≡ newest_name h
+unfolding newest_name entry_at
+newest_of [] count r n z f = absurd (z n)
+newest_of (e ∷ older) count r n z f =
+    named r e.kind (f e (cond_true (some e) (entry_at older (count - 1)) (eqb_of (length older) (count - 1) (omega arith))))
 
 module _ (l : List ℕ) (p count : ℕ) where
-  pub newest_none : OfState l (λ s. count ≡ length (history_at s p)) → count ≡ 0 → OfState l (λ s. newest_text Nothing ≡ newest_name (history_at s p))
+  pub newest_none : OfState l (λ s. count ≡ length (history_at s p)) → count ≡ 0 → OfState l (λ s. newest_text None ≡ newest_name (history_at s p))
   unfolding OfState newest_name newest_text
   newest_none f z s rest x = go (history_at s p) (sym (f s rest x) ∙ z)
     where
-      go : (h : List Entry) → length h ≡ 0 → newest_text Nothing ≡ newest_name h
+      go : (h : List Entry) → length h ≡ 0 → newest_text None ≡ newest_name h
       go [] n = refl
       go (e ∷ older) n = absurd (omega arith)
 
@@ -94,10 +78,10 @@ module _ (l : List ℕ) (p count : ℕ) where
   unfolding OfState
   newest_entry f z s rest x = let n = f s rest x in omega arith
 
-  pub newest_is : (kind : ℕ) (r : Newest) → OfState l (λ s. count ≡ length (history_at s p)) → ¬ (count ≡ 0) → OfState l (OfEntry p (count - 1) (λ e. kind ≡ kind_number e.kind)) → Named kind r
-      → OfState l (λ s. newest_text r ≡ newest_name (history_at s p))
+  pub newest_is : (r : EntryKind) → OfState l (λ s. count ≡ length (history_at s p)) → ¬ (count ≡ 0) → OfState l (OfEntry p (count - 1) (λ e. number_of r ≡ kind_number e.kind))
+      → OfState l (λ s. newest_text (Some r) ≡ newest_name (history_at s p))
   unfolding OfState OfEntry
-  newest_is kind r f z g n s rest x = newest_of (history_at s p) count kind r (f s rest x) z (g s rest x) n
+  newest_is r f z g s rest x = newest_of (history_at s p) count r (f s rest x) z (g s rest x)
 
 -- ---- how many places are in the pool
 
@@ -145,14 +129,14 @@ module _ (l : List ℕ) (p at e : ℕ) (old : List ℕ) where
   unfolding OfState process_lines
   no_lines b f t r short s rest x = rw (no_process_lem s p (sym (f s rest x) ∙ t), process_lines) (wrote_none old at e r short)
 
-  pub five_lines : (b : Bool) (entries : ℕ) (newest : Newest) (names words new : List ℕ) → OfState l (λ s. b ≡ in_pool s p) → b ≡ true
+  pub five_lines : (b : Bool) (entries : ℕ) (newest : Option EntryKind) (names words new : List ℕ) → OfState l (λ s. b ≡ in_pool s p) → b ≡ true
       → OfState l (λ s. entries ≡ length (history_at s p)) → OfState l (λ s. newest_text newest ≡ newest_name (history_at s p)) → OfState l (λ s. names ≡ map name_word (s.queues p)) → OfState l (λ s. words ≡ control_at s p)
       → Wrote (process_text p entries newest names words) at old new e → OfState l (λ s. Wrote (process_lines p (s.queues p) (s.processes p)) at old new e)
   unfolding OfState history_at history_of control_at control_of
   five_lines b entries newest names words new f t n k q c w s rest x =
       go (s.processes p) (process_of s p (sym (f s rest x) ∙ t)) (n s rest x) (k s rest x) (c s rest x)
     where
-      go : (o : Option Process) → (a : Process) × (o ≡ some a) → entries ≡ length (history_of o) → newest_text newest ≡ newest_name (history_of o) → words ≡ control_of o → Wrote (process_lines p (s.queues p) o) at old new e
+      go : (o : Maybe Process) → (a : Process) × (o ≡ some a) → entries ≡ length (history_of o) → newest_text newest ≡ newest_name (history_of o) → words ≡ control_of o → Wrote (process_lines p (s.queues p) o) at old new e
       go o (a, i) n k c =
           rw i (rw (process_lines_lem p a (s.queues p) entries newest names words (rw i at n) (rw i at k) (ap (map name_in) (q s rest x) ∙ queue_texts s (s.queues p) ((storable s x.sound).queue p).each) (rw i at c)) at w)
 

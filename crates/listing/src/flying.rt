@@ -7,18 +7,17 @@ ghost use Rattle.text.specs.Written.{Wrote};
 ghost use Rattle.reading.specs.Reads.{OfState, IsPlace};
 ghost use Rattle.listing.specs.Listed.{Followed, name_if, flying_texts, flying_line};
 
-use reading::found::Found;
 use reading::mail::{find_send, has_come, sends_before, target};
 use reading::state::{entry_count, places};
 use rows::words::NAME_BASE;
 use text::keys::FLIGHT;
 use text::writing::{past, write_bytes, write_gap, write_line_feed, write_name};
 
-// How far a row of pieces split by single spaces is written: the position after it, and 0 where no piece stands in it yet.
+// How far a row of pieces split by single spaces is written: the position after it, and whether any piece stands in it yet.
 #[derive(Clone, Copy)]
 pub struct Row {
     to: usize,
-    before: usize,
+    begun: bool,
 }
 
 // Whether message s.k is in flight.
@@ -26,7 +25,7 @@ pub fn in_flight(store: &[u32], s: usize, k: u32) -> bool
     requires { IsImage store.now × OfState store.now (IsPlace s) }
     ensures { OfState store.now (λ state. result ≡ is_flying state s k) }
 {
-    let Found::At(i) = find_send(store, s, k) else {
+    let Some(i) = find_send(store, s, k) else {
         return false;
     };
     let t = target(store, s, i);
@@ -39,18 +38,16 @@ fn write_flying(store: &[u32], out: &mut [u8], row: Row, s: usize, k: u32) -> Ro
     requires { IsImage store.now × OfState store.now (IsPlace s) }
     ensures { OfState store.now (λ state. Followed (name_if (is_flying state s k) s k) row out.old out.new result) }
 {
-    let at = row.to;
-    let before = row.before;
     if !in_flight(store, s, k) {
         return Row {
-            to: past(at, 0),
-            before: before,
+            to: past(row.to, 0),
+            ..row
         };
     }
-    let next = write_gap(out, at, before);
+    let next = write_gap(out, row.to, usize::from(row.begun));
     Row {
         to: write_name(out, next, s as u32, k),
-        before: 1,
+        begun: true,
     }
 }
 
@@ -62,12 +59,10 @@ fn write_sender(store: &[u32], out: &mut [u8], row: Row, s: usize) -> Row
     let end = sends_before(store, s, entry_count(store, s));
     let mut reached = Row {
         to: past(row.to, 0),
-        before: row.before,
+        ..row
     };
-    let mut k = 0;
-    while k < end {
+    for k in 0..end {
         reached = write_flying(store, out, reached, s, k);
-        k += 1;
     }
     reached
 }
@@ -77,15 +72,12 @@ fn write_senders(store: &[u32], out: &mut [u8], row: Row) -> Row
     requires { IsImage store.now }
     ensures { OfState store.now (λ state. Followed (flying_texts state state.sizes.places) row out.old out.new result) }
 {
-    let end = places(store);
     let mut reached = Row {
         to: past(row.to, 0),
-        before: row.before,
+        ..row
     };
-    let mut s = 0;
-    while s < end {
+    for s in 0..places(store) {
         reached = write_sender(store, out, reached, s);
-        s += 1;
     }
     reached
 }
@@ -96,7 +88,6 @@ pub fn write_flight(store: &[u32], out: &mut [u8], at: usize) -> usize
     ensures { OfState store.now (λ state. Wrote (flying_line state) at out.old out.new result) }
 {
     let to = write_bytes(out, at, &FLIGHT);
-    let row = write_senders(store, out, Row { to: to, before: 0 });
-    let end = row.to;
-    write_line_feed(out, end)
+    let row = write_senders(store, out, Row { to, begun: false });
+    write_line_feed(out, row.to)
 }

@@ -7,9 +7,10 @@ ghost use Rattle.reading.specs.Reads.{OfState};
 
 use crate::flying::write_flight;
 use crate::processes::{pool_count, write_places};
-use calls::answers::Answer;
+use calls::answers::{Answer, Refusal};
 use soundness::sound::sound;
-use text::listing::write_processes;
+use text::keys::PROCESSES;
+use text::replies::write_number_line;
 
 // The listing written from the start of the output, as far as it reaches; the answer is the listing's length.
 fn write_listing(store: &[u32], out: &mut [u8]) -> usize
@@ -17,7 +18,7 @@ fn write_listing(store: &[u32], out: &mut [u8]) -> usize
     ensures { OfState store.now (λ s. Wrote (listing_of s) 0 out.old out.new result) }
 {
     let count = pool_count(store);
-    let to = write_processes(out, 0, count);
+    let to = write_number_line(out, 0, &PROCESSES, count);
     let next = write_places(store, out, to);
     write_flight(store, out, next)
 }
@@ -28,12 +29,12 @@ pub fn listing(store: &[u32], out: &mut [u8]) -> Answer
     ensures { Lists store.now out.old out.new result }
 {
     if !sound(store) {
-        return Answer::NotAState;
+        return Err(Refusal::NotAState);
     }
     let length = write_listing(store, &mut out[..0]);
     if out.len() < length {
-        return Answer::NoRoom;
+        return Err(Refusal::NoRoom);
     }
     write_listing(store, out);
-    Answer::Done(length as u32)
+    Ok(length as u32)
 }

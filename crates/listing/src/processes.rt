@@ -7,12 +7,12 @@ ghost use Rattle.store.specs.Image.{IsImage};
 ghost use Rattle.text.specs.Lines.{newest_text};
 ghost use Rattle.text.specs.Written.{Wrote};
 ghost use Rattle.reading.specs.Reads.{OfState, IsPlace};
-ghost use Rattle.listing.specs.Listed.{Named, places_text};
+ghost use Rattle.listing.specs.Listed.{places_text};
 
+use kinds::Kind;
 use reading::entries::kind;
 use reading::state::{control, entry_count, in_pool, places, queue};
-use store::layout::{REC, SELF, SEND, SEQ, SPAWN};
-use text::listing::{Newest, Shown, write_process};
+use text::listing::{Shown, write_process};
 use text::writing::past;
 
 // How many places are in the pool.
@@ -20,50 +20,25 @@ pub fn pool_count(store: &[u32]) -> u32
     requires { IsImage store.now }
     ensures { OfState store.now (λ s. result ≡ length (keep (in_pool s) (up_to s.sizes.places))) }
 {
-    let end = places(store) as u32;
     let mut count = 0;
-    let mut p = 0;
-    while p < end {
+    for p in 0..places(store) as u32 {
         if in_pool(store, p) {
             count += 1;
         }
-        p += 1;
     }
     count
 }
 
-// The kind that a number of the layout stands for.
-fn named(kind: u32) -> Newest
-    ensures { Named kind result }
-{
-    if kind == SEQ {
-        return Newest::Seq;
-    }
-    if kind == SEND {
-        return Newest::Send;
-    }
-    if kind == REC {
-        return Newest::Rec;
-    }
-    if kind == SPAWN {
-        return Newest::Spawn;
-    }
-    if kind == SELF {
-        return Newest::Own;
-    }
-    Newest::Check
-}
-
 // The kind of the newest entry of place p.
-pub fn newest(store: &[u32], p: usize) -> Newest
+pub fn newest(store: &[u32], p: usize) -> Option<Kind>
     requires { IsImage store.now × OfState store.now (IsPlace p) }
     ensures { OfState store.now (λ s. newest_text result ≡ newest_name (history_at s p)) }
 {
     let count = entry_count(store, p);
     if count == 0 {
-        return Newest::Nothing;
+        return None;
     }
-    named(kind(store, p, count - 1))
+    Some(kind(store, p, count - 1))
 }
 
 // The lines of place p: none where no process is.
@@ -78,8 +53,8 @@ pub fn write_place(store: &[u32], out: &mut [u8], at: usize, p: usize) -> usize
     let entries = entry_count(store, p) as u32;
     let kind = newest(store, p);
     let shown = Shown {
-        place: place,
-        entries: entries,
+        place,
+        entries,
         newest: kind,
     };
     write_process(out, at, shown, queue(store, p), control(store, p))
@@ -90,12 +65,9 @@ pub fn write_places(store: &[u32], out: &mut [u8], at: usize) -> usize
     requires { IsImage store.now }
     ensures { OfState store.now (λ s. Wrote (places_text s s.sizes.places) at out.old out.new result) }
 {
-    let end = places(store);
     let mut to = past(at, 0);
-    let mut p = 0;
-    while p < end {
+    for p in 0..places(store) {
         to = write_place(store, out, to, p);
-        p += 1;
     }
     to
 }

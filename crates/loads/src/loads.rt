@@ -4,29 +4,27 @@ use checks::module::LONGEST;
 use console::printing::print_number;
 use console::words::read_words;
 use std::io::{Result, Write};
-use store::load::{Loaded, load};
+use store::load::{LoadError, load};
 use text::keys::ANSWER;
 
 // What begins the line of a bad module's position.
 const POSITION: [u8; 9] = *b"position=";
 
-// The sizes that a load takes before the module, and the most words of a line that loads.
-const SIZES: usize = 3;
-
+// The most words of a line that loads.
 pub const LOADED: usize = 600;
 
 // Loads, from the words of a line. An error is one of printing, and comes after the load.
 fn load_words<W: Write>(to: &mut W, store: &mut [u32], words: &[u32]) -> Result<()> {
-    if words.len() < SIZES {
-        return Ok(());
-    }
-    let loaded = load(&words[SIZES..], words[0], words[1], words[2], store);
-    print_number(to, &ANSWER, load_number(loaded))?;
-    let Loaded::BadModule(at) = loaded else {
+    let [places, entries, control, module @ ..] = words else {
         return Ok(());
     };
-    if at <= LONGEST {
-        print_number(to, &POSITION, at as u32)?;
+    let loaded = load(module, *places, *entries, *control, store);
+    print_number(to, &ANSWER, load_number(loaded))?;
+    let Err(LoadError::BadModule(bad)) = loaded else {
+        return Ok(());
+    };
+    if bad.0 <= LONGEST {
+        print_number(to, &POSITION, bad.0 as u32)?;
     }
     Ok(())
 }
@@ -34,8 +32,5 @@ fn load_words<W: Write>(to: &mut W, store: &mut [u32], words: &[u32]) -> Result<
 pub fn load_line<W: Write>(to: &mut W, store: &mut [u32], text: &[u8]) -> Result<()> {
     let mut words = [0u32; LOADED];
     let n = read_words(text, &mut words);
-    if n <= LOADED {
-        load_words(to, store, &words[..n])?;
-    }
-    Ok(())
+    load_words(to, store, &words[..n])
 }

@@ -1,8 +1,9 @@
 -- A message that was sent: its name, its value, and the entry that sent it.
+use Rattle.std.proofs.Common.{Option, None, Some}
 use Prim.Native.Nat.{ℕ, ◌≤◌, ◌<◌}
 use mathlib.Core.Path.{◌≡◌, refl, sym, ◌∙◌, ap, subst, subst₂}
 use mathlib.Core.Bool.{Bool, true, false}
-use mathlib.Core.Option.{Option, none, some}
+use mathlib.Core.Option.{Option as Maybe, none, some}
 use mathlib.Core.List.{List, ◌++◌}
 use native.Mathlib.Omega.{arith}
 use lib.Dec.{eqb}
@@ -17,9 +18,9 @@ use Rattle.machine.specs.Place.{working}
 use Rattle.machine.specs.Work.{Work, finished, stuck, to_seq, to_send, to_receive, to_spawn, to_self, to_check, next, seq_or, body_with, case_gives, let_gives, send_to, send_work, work_at, work}
 use Rattle.copying.specs.Places.{place_of}
 use Rattle.step.specs.Controls.{ControlIs}
+use Rattle.step.specs.Steps.{Next}
 use Rattle.step.specs.Becomes.{ValueIs}
 use Rattle.step.specs.Becomes
-use Rattle.step.specs.declared.step.Next.{Next}
 use Rattle.step.proofs.RowSplit.{working_stands}
 use Rattle.step.proofs.RowWork.{work_reads, work_not}
 use Rattle.rules.specs.State.{Message, letter, State, history_at}
@@ -30,11 +31,9 @@ use Rattle.store.specs.Layout.{most_entries, most_words, name_base, name_word}
 use Rattle.store.specs.Image.{IsImage}
 use Rattle.store.proofs.SoundStates.{numbered}
 use Rattle.reading.specs.Reads.{OfState, control_at, IsPlace, OfSend, IsSend, SendFound, Lives}
-use Rattle.reading.specs.declared.found.Found.{Found}
 use Rattle.reading.proofs.Holding.{at_image}
 use Rattle.reading.proofs.Naming.{sender_of, count_of, name_sender, name_count}
 use Rattle.reading.proofs.MailReads.{found_at}
-use Rattle.reading.specs.declared.found.Found.TheVariants.{Nowhere, At}
 use Rattle.making.specs.Making.{about, IsSent, ValueSent, TakenRow}
 use Rattle.step.proofs.Ready.{control_ready, sent_ready}
 use Rattle.making.proofs.Living.{sizes_of, ready}
@@ -52,7 +51,7 @@ ShortSend most (to_spawn child rows) = Unit {0}
 ShortSend most (to_self rows) = Unit {0}
 ShortSend most (to_check number row) = Unit {0}
 
-short_seq : (most : ℕ) (whole : Term) (o : Option Term) → ShortSend most (seq_or whole o)
+short_seq : (most : ℕ) (whole : Term) (o : Maybe Term) → ShortSend most (seq_or whole o)
 unfolding seq_or ShortSend
 short_seq most whole none = tt
 short_seq most whole (some t) = tt
@@ -145,19 +144,19 @@ module _ (l : List ℕ) (p name : ℕ) (is-sent : OfState l (IsSent p name)) whe
       let small : x.message.count < name_base = omega (arith, y.count_small) in
       omega (arith, ap sender_of (sym x.named) ∙ name_sender x.message.sender x.message.count small, y.sender_below)
 
-  module _ (f : Found) (found : OfState l (λ s. SendFound (history_at s (sender_of name)) (count_of name) f)) where
-    pub content_nowhere : (v : List ℕ) → f ≡ Nowhere → OfState l (ValueSent p name v)
+  module _ (f : Option ℕ) (found : OfState l (λ s. SendFound (history_at s (sender_of name)) (count_of name) f)) where
+    pub content_nowhere : (v : List ℕ) → f ≡ None → OfState l (ValueSent p name v)
     unfolding OfState ValueSent SendFound
     content_nowhere v e s rest h m to named =
         none_not_some (sym (subst (SendFound (history_at s (sender_of name)) (count_of name)) e (found s rest h)) ∙ sent_there s m h.sound to named)
 
-    pub content_send : (i : ℕ) → f ≡ At i → OfState l (IsSend (sender_of name) i)
+    pub content_send : (i : ℕ) → f ≡ Some i → OfState l (IsSend (sender_of name) i)
     unfolding OfState
     content_send i e s rest h =
         let x = found_at s (sender_of name) (count_of name) i (subst (SendFound (history_at s (sender_of name)) (count_of name)) e (found s rest h)) in
         record { entry = x.entry; target = x.target; value = x.value; stands = x.stands; is_send = x.is_send }
 
-    pub content_found : (i : ℕ) (v : List ℕ) → f ≡ At i → OfState l (OfSend (sender_of name) i (λ target value. v ≡ value)) → OfState l (ValueSent p name v)
+    pub content_found : (i : ℕ) (v : List ℕ) → f ≡ Some i → OfState l (OfSend (sender_of name) i (λ target value. v ≡ value)) → OfState l (ValueSent p name v)
     unfolding OfState OfSend ValueSent
     content_found i v e is s rest h m to named =
         let x = found_at s (sender_of name) (count_of name) i (subst (SendFound (history_at s (sender_of name)) (count_of name)) e (found s rest h)) in

@@ -5,11 +5,10 @@ use mathlib.Core.List.{List, [], ◌∷◌}
 use Rattle.term.specs.Read.{term_of, terms_of}
 use Rattle.machine.specs.Value.{atom, pid}
 use Rattle.machine.specs.Work.{Work, work}
-use Rattle.step.specs.Steps.{WroteNext}
+use Rattle.step.specs.Steps.{Next, WroteNext}
 use Rattle.step.specs.Controls.{ControlIs, doing_of, DoingOf}
 use Rattle.step.specs.Becomes.{BecomesWord, SeqIs, SeqNext, SendNext, ChildNext}
 use Rattle.step.specs.declared.work.Doing.{Doing}
-use Rattle.step.specs.declared.step.Next.{Next}
 use Rattle.reading.specs.Reads.{OfState, control_at, Lives}
 use Rattle.making.specs.Making.{about, SeqRow, SendRow, WordRow, ChildRow}
 use Rattle.step.proofs.Ready.{module_ready}

@@ -1,19 +1,18 @@
 -- What a process is about to do, its next control and its next entry, said of the state that a store holds.
-use Rattle.std.specs.Prelude.{ℕ, ◌≤◌, ◌≡◌, List, ◌∷◌, ◌++◌, length, take}
+use Rattle.std.specs.Prelude.{ℕ, ◌≤◌, ◌≡◌, List, ◌∷◌, ◌++◌, length, take, Ok, Err}
 use Rattle.std.proofs.Math.Option.{Option, none, some}
 use Rattle.term.specs.Words.{word, tag_atom, tag_pid}
 use Rattle.machine.specs.Work.{Work, to_seq, to_send, to_receive, to_spawn, to_self, to_check, work}
-use Rattle.step.specs.Steps.{fitted_of, WroteNext}
+use Rattle.step.specs.Steps.{Next, fitted_of, WroteNext}
 use Rattle.step.specs.Becomes.{RowIs}
-use Rattle.step.specs.declared.step.Next.{Next}
-use Rattle.step.specs.declared.step.Next.TheVariants.{Nothing, TooLarge, Row}
+use Rattle.step.specs.declared.step.NoNext.TheVariants.{Nothing}
 use Rattle.rules.specs.State.{Message, Kind, rec, spawn, as_rec, Process, State, history_at}
 use Rattle.rules.specs.Sound.{SentTo}
 use Rattle.rules.specs.Load.{new_process}
 use Rattle.rules.specs.Commands.{Beside, nothing, own_queue, other, picked, pick, making}
 use Rattle.rules.specs.Commands
 use Rattle.store.specs.Layout.{kind_number, number_in, name_word}
-use Rattle.calls.specs.declared.answers.Answer.{Answer}
+use Rattle.calls.specs.Numbers.{Answer}
 use Rattle.calls.specs.Answering.{Obeys}
 use Rattle.reading.specs.Reads.{Holds, control_at}
 use Rattle.making.specs.declared.picking.Picked.{Picked}
@@ -61,7 +60,7 @@ TakenRow p name old new r s =
 
 -- nothing was written where no message is taken; else the place of the oldest that is taken is told, and the next control
 unfoldable pub PickIs : Option Commands.Picked → (old new : List ℕ) → Picked → Type 0
-PickIs none old new r = r.next ≡ Nothing
+PickIs none old new r = r.next ≡ Err Nothing
 PickIs (some (picked older m newer row)) old new r = (length older ≡ r.place) × WroteNext row old new r.next
 
 unfoldable pub PickedRow : (p : ℕ) (old new : List ℕ) → Picked → State → Type 0
@@ -71,9 +70,8 @@ PickedRow p old new r s = (takes : List ℕ → Option (List ℕ)) → about s p
 
 -- a told length lies within a buffer
 unfoldable pub Within : Next → ℕ → Type 0
-Within Nothing size = Unit {0}
-Within TooLarge size = Unit {0}
-Within (Row n) size = n ≤ size
+Within (Err e) size = Unit {0}
+Within (Ok n) size = n ≤ size
 
 -- the next control stands at the start of a buffer where it has at most W words, and it is told whether it has
 pub record Drawn (most : ℕ) (whole row : List ℕ) (next : Next) : Type 0 where
@@ -97,7 +95,7 @@ MakesEntry p kind number next row entry exit r =
 unfoldable pub MakesRec : (p place n : ℕ) (row entry exit : List ℕ) → Answer → Type 0
 MakesRec p place n row entry exit r =
     (s : State) (rest : List ℕ) (older : List Message) (m : Message) (newer : List Message) → Holds entry s rest → s.queues p ≡ older ++ (m ∷ newer) → length older ≡ place
-    → Made p (rec older m newer) (own_queue (older ++ newer)) (Row n) row s rest exit r
+    → Made p (rec older m newer) (own_queue (older ++ newer)) (Ok n) row s rest exit r
 
 -- a spawn into place f
 unfoldable pub MakesSpawn : (p f : ℕ) → Next → (row first entry exit : List ℕ) → Answer → Type 0

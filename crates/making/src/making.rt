@@ -7,7 +7,7 @@ ghost use Rattle.writing.specs.Writes.{CanTake};
 ghost use Rattle.entering.specs.Entering.{CanSpawn};
 ghost use Rattle.making.specs.Making.{Within, Sized, MakesEntry, MakesRec, MakesSpawn};
 
-use calls::answers::Answer;
+use calls::answers::{Answer, Refusal};
 use entering::entering::{bear, enter, receive};
 use reading::state::{entry_count, most_entries};
 use step::step::Next;
@@ -26,14 +26,14 @@ pub fn make(store: &mut [u32], p: usize, kind: u32, number: u32, next: Next, row
     ensures { MakesEntry p kind number next row.now store.old store.new result }
 {
     // Too large: Nothing is told of a receive alone.
-    let Next::Row(n) = next else {
-        return Answer::TooLarge;
+    let Ok(n) = next else {
+        return Err(Refusal::TooLarge);
     };
     if !has_room(store, p) {
-        return Answer::HistoryFull;
+        return Err(Refusal::HistoryFull);
     }
     enter(store, p, kind, number, &row[..n]);
-    Answer::Done(0)
+    Ok(0)
 }
 
 // p receives the message at a place of its queue; the next control is the first n words of `row`.
@@ -43,9 +43,9 @@ pub fn make_rec(store: &mut [u32], p: usize, place: usize, n: usize, row: &[u32]
 {
     if has_room(store, p) {
         receive(store, p, place, &row[..n]);
-        return Answer::Done(0);
+        return Ok(0);
     }
-    Answer::HistoryFull
+    Err(Refusal::HistoryFull)
 }
 
 // p spawns a process into the free place f, with its first control.
@@ -61,12 +61,12 @@ pub fn make_spawn(
     ensures { MakesSpawn p f next row.now first.now store.old store.new result }
 {
     // Too large: Nothing is told of a receive alone.
-    let Next::Row(n) = next else {
-        return Answer::TooLarge;
+    let Ok(n) = next else {
+        return Err(Refusal::TooLarge);
     };
     if has_room(store, p) {
         bear(store, p, f, &row[..n], first);
-        return Answer::Done(0);
+        return Ok(0);
     }
-    Answer::HistoryFull
+    Err(Refusal::HistoryFull)
 }

@@ -3,12 +3,11 @@ ghost use Rattle.store.specs.Image.{IsImage};
 ghost use Rattle.reading.specs.Reads.{OfState, Lives};
 ghost use Rattle.making.specs.Making.{IsSent, ValueSent, TakenRow, PickedRow};
 
-use reading::found::Found;
 use reading::mail::{find_send, value};
 use reading::state::{control, queue};
 use rows::words::NAME_BASE;
 use step::control::taken;
-use step::step::Next;
+use step::step::{Next, NoNext};
 
 // The value of the message of that name, which was sent to p.
 fn content<'a>(store: &'a [u32], p: usize, name: u32) -> &'a [u32]
@@ -17,7 +16,7 @@ fn content<'a>(store: &'a [u32], p: usize, name: u32) -> &'a [u32]
 {
     let s = (name / NAME_BASE) as usize;
     // Never nowhere: it was sent.
-    let Found::At(i) = find_send(store, s, name % NAME_BASE) else {
+    let Some(i) = find_send(store, s, name % NAME_BASE) else {
         return &store[..0];
     };
     value(store, s, i)
@@ -31,7 +30,8 @@ fn taken_row(store: &[u32], p: usize, name: u32, out: &mut [u32]) -> Next
     taken(control(store, p), content(store, p, name), out)
 }
 
-// The place of the message in the queue, and the next control; the queue's length where none is taken.
+// The place of the message in the queue, and the next control; the queue's length where none is taken. No `Option` of a pair: `PickIs` tells the
+// place of a message whose next control is too large too.
 #[derive(Clone, Copy)]
 pub struct Picked {
     pub place: usize,
@@ -43,29 +43,14 @@ pub fn pick(store: &[u32], p: usize, out: &mut [u32]) -> Picked
     ensures { OfState store.now (PickedRow p out.old out.new result) }
 {
     let names = queue(store, p);
-    let mut i = 0;
-    while i < names.len() {
-        let next = taken_row(store, p, names[i], out);
-        match next {
-            Next::Nothing => {
-                i += 1;
-            }
-            Next::TooLarge => {
-                return Picked {
-                    place: i,
-                    next: Next::TooLarge,
-                };
-            }
-            Next::Row(n) => {
-                return Picked {
-                    place: i,
-                    next: Next::Row(n),
-                };
-            }
+    for (i, name) in names.iter().enumerate() {
+        match taken_row(store, p, *name, out) {
+            Err(NoNext::Nothing) => {}
+            next => return Picked { place: i, next },
         }
     }
     Picked {
-        place: i,
-        next: Next::Nothing,
+        place: names.len(),
+        next: Err(NoNext::Nothing),
     }
 }

@@ -3,12 +3,13 @@ use Prim.Native.Nat.{ℕ, suc, ◌+◌, ◌-◌, ◌≤◌}
 use mathlib.Core.Path.{◌≡◌, refl, sym, ap, ap₂, ◌∙◌, subst}
 use mathlib.Core.Logic.{inl, inr}
 use mathlib.Core.Bool.{Bool, true, false, ◌&&◌}
-use mathlib.Core.Option.{Option, none, some}
+use mathlib.Core.Option.{Option as Maybe, none, some}
 use mathlib.Core.List.{List, ◌++◌, append_assoc, append-nil}
 use native.Mathlib.Omega.{arith}
 use native.Mathlib.Decide.{ℕ_discrete}
 use lib.Dec.{eqb, leb}
 use lib.ListN.{length, drop, get_or, length-append, get_or-eq_default}
+use Rattle.std.specs.Prelude.{Option, Some, None}
 use Rattle.lists.proofs.Tests.{eqb_of, eqb_apart, and_left, and_right, leb-true, true_not_false}
 use Rattle.term.specs.Words.{tag_of, k_of, tag_tuple, tag_atom, tag_call, tag_variable}
 use Rattle.term.specs.Rows.{passed}
@@ -19,15 +20,15 @@ use Rattle.machine.specs.Value.{same_term, truth}
 use Rattle.machine.specs.Match.{Bindings}
 use Rattle.machine.specs.Bind.{bind, bind_all}
 use Rattle.machine.specs.Guard.{operate_some, guard_gives, guards_give, guard_holds}
-use Rattle.row_laws.specs.Rows.{Plain, PlainAll, Entry, Bound}
+use Rattle.row_laws.specs.Rows.{Stands, Plain, PlainAll, Entry, Bound}
 use Rattle.operands.specs.Operands.{short_term, is_long, ShortIs, LongIs, Gives, operate_both, Operates, StandsHere, StandsThere}
 use Rattle.operands.specs.Guards.{OfValues, IsGuard, AreGuards, Looked, GuardIs, GuardAt, HoldsAt}
 use Rattle.operands.specs.declared.operand.Operand.{Operand}
-use Rattle.operands.specs.declared.operand.Operand.TheVariants.{Short, Here, There, Stuck}
+use Rattle.operands.specs.declared.operand.Operand.TheVariants.{Short, Here, There}
 use Rattle.operands.specs.declared.guard.Given.{Given}
 use Rattle.row_laws.proofs.RowTerms.{node_at, integer_at, one_skip, past_term, plain_whole, stands_within, as_row, one_term, head_of, no_children}
 use Rattle.row_laws.proofs.RowBind.{bind_other, bind_free, bind_bound, entry_value}
-use Rattle.operands.proofs.RowOperand.{short_differ, same_self, long_short, gives_short, gives_here, gives_there, gives_stuck}
+use Rattle.operands.proofs.RowOperand.{short_differ, same_self, long_short, gives_short, gives_stuck}
 
 -- ---- what guards give
 pub gives_value : (t : Term) → is_value t ≡ true → guard_gives t ≡ some t
@@ -36,7 +37,7 @@ gives_value (int x) v = refl
 gives_value (node tag n k ts) v = go (is_value (node tag n k ts)) v
   where
     go : (b : Bool) → b ≡ true
-        → ◌≡◌ {A = Option Term} (elim b [ true ↦ some (node tag n k ts) | false ↦ elim (eqb tag tag_call) [ true ↦ operate_some k (guards_give ts) | false ↦ none ] ]) (some (node tag n k ts))
+        → ◌≡◌ {A = Maybe Term} (elim b [ true ↦ some (node tag n k ts) | false ↦ elim (eqb tag tag_call) [ true ↦ operate_some k (guards_give ts) | false ↦ none ] ]) (some (node tag n k ts))
     go true e = refl
     go false e = true_not_false e refl
 
@@ -79,19 +80,23 @@ mutual
 
 -- ---- the value of a variable
 module _ (v env : List ℕ) (k : ℕ) where
-  pub looked_past : length env ≤ k → Looked v env k Stuck
+  pub looked_past : length env ≤ k → (r : Option Operand) → r ≡ None → Looked v env k r
   unfolding Looked Gives Entry
-  looked_past h here o e f = subst (λ (i : ℕ). Entry v i o) (get_or-eq_default env 0 h) e
+  looked_past h r er here o e f = subst (λ (q : Option Operand). Gives here v q o) (sym er) (subst (λ (i : ℕ). Entry v i o) (get_or-eq_default env 0 h) e)
 
-  pub looked_none : get_or env k 0 ≡ 0 → Looked v env k Stuck
-  unfolding Looked Gives Entry
-  looked_none z here o e f = subst (λ (i : ℕ). Entry v i o) z e
+  module _ (after : ℕ) (ea : after ≡ get_or env k 0) where
+    pub looked_none : ¬ (1 ≤ after) → (r : Option Operand) → r ≡ None → Looked v env k r
+    unfolding Looked Gives Entry
+    looked_none z r er here o e f =
+        let unbound : get_or env k 0 ≡ 0 = omega (arith, ea) in
+        subst (λ (q : Option Operand). Gives here v q o) (sym er) (subst (λ (i : ℕ). Entry v i o) unbound e)
 
-  pub looked_value : ¬ (get_or env k 0 ≡ 0) → (r : Operand) → StandsThere v (get_or env k 0 - 1) r → Looked v env k r
-  unfolding Looked StandsThere
-  looked_value d r s here o e f =
-      let w = entry_value v (get_or env k 0) o e d in
-      subst (Gives here v r) (sym w.is) (s here w.term w.stands (f w.term w.is))
+    pub looked_value : (place : ℕ) → (1 ≤ after) × (place ≡ after - 1) → (r : Option Operand) → StandsThere v place r → Looked v env k r
+    unfolding Looked StandsThere
+    looked_value place q r s here o e f =
+        let w = entry_value v after o (subst (λ (i : ℕ). Entry v i o) (sym ea) e) (λ z. omega arith) in
+        let st : Stands v place w.term = subst (λ (i : ℕ). Stands v i w.term) (sym q.1) w.stands in
+        subst (Gives here v r) (sym w.is) (s here w.term st (f w.term w.is))
 
 -- ---- the steps of `guard`
 node_words : (tag n k : ℕ) (ts : Terms) → length (words (node tag n k ts)) ≡ suc (length (words_of ts))
@@ -102,7 +107,7 @@ one_word : suc (length (words_of end)) ≡ 1
 unfolding words_of
 one_word = refl
 
-variable_gives : (bindings : Bindings) (tag n k : ℕ) (ts : Terms) → tag ≡ tag_variable → OfValues bindings → (o : Option Term) → bindings k ≡ o → guard_gives (bind bindings (node tag n k ts)) ≡ bindings k
+variable_gives : (bindings : Bindings) (tag n k : ℕ) (ts : Terms) → tag ≡ tag_variable → OfValues bindings → (o : Maybe Term) → bindings k ≡ o → guard_gives (bind bindings (node tag n k ts)) ≡ bindings k
 unfolding OfValues
 variable_gives bindings tag n k ts e of none q = ap guard_gives (bind_free bindings tag n k ts e q) ∙ gives_variable tag n k ts e ∙ sym q
 variable_gives bindings tag n k ts e of (some t) q = ap guard_gives (bind_bound bindings tag n k ts t e q) ∙ gives_value t (of k t q) ∙ sym q
@@ -179,13 +184,13 @@ module _ (c : List ℕ) (at t : ℕ) (et : t ≡ tag_of (get_or c at 0)) (no-var
       absurd (no-variable (et ∙ (node_at c at 1 _ tag n k ts end rest (head_of tag n k ts p) (one_term (node tag n k ts)) (as_row c at (node tag n k ts) rest e) refl).tag_is ∙ y))
   guard_is_value no_call (node tag n k ts) rest p (inr (inr y)) e = y.2
 
-module _ (c : List ℕ) (at t : ℕ) (et : t ≡ tag_of (get_or c at 0)) (no-variable : ¬ (t ≡ tag_variable)) (call : t ≡ tag_call) where
+module _ (c : List ℕ) (at t : ℕ) (et : t ≡ tag_of (get_or c at 0)) (call : t ≡ tag_call) where
   call_parts : (g : Term) (rest : List ℕ) → Plain g → IsGuard g → drop at c ≡ words g ++ rest → CallParts c at g rest
   unfolding IsGuard
   call_parts (int x) rest p i e = absurd (omega (arith, (integer_at c at x end rest (as_row c at (int x) rest e)).tag_is))
   call_parts (node tag n k ts) rest p (inl y) e = two_parts c at tag n k ts rest y.0 p y.1 y.2 e
   call_parts (node tag n k ts) rest p (inr (inl y)) e =
-      absurd (no-variable (et ∙ (node_at c at 1 _ tag n k ts end rest (head_of tag n k ts p) (one_term (node tag n k ts)) (as_row c at (node tag n k ts) rest e) refl).tag_is ∙ y))
+      absurd (omega (arith, call, et ∙ (node_at c at 1 _ tag n k ts end rest (head_of tag n k ts p) (one_term (node tag n k ts)) (as_row c at (node tag n k ts) rest e) refl).tag_is ∙ y))
   call_parts (node tag n k ts) rest p (inr (inr y)) e =
       absurd (y.0 (sym (node_at c at 1 _ tag n k ts end rest (head_of tag n k ts p) (one_term (node tag n k ts)) (as_row c at (node tag n k ts) rest e) refl).tag_is ∙ sym et ∙ call))
 
@@ -210,29 +215,29 @@ module _ (c : List ℕ) (at : ℕ) (v env : List ℕ) where
             ends = one_skip c at r.end g rest re (plain_whole g p) e;
           }
 
-      module _ (call : t ≡ tag_call) (first : Given) (gf : GuardAt c (at + 1) v env first) where
-        pub guard_broken : (r : Given) → first.end ≤ at → GuardAt c at v env r
-        unfolding GuardAt
-        guard_broken r h g rest bindings p i e b o =
-            let s = call_parts c at t et no-variable call g rest p i e in
-            let f = gf s.left (words s.right ++ rest) bindings s.plain_left s.guard_left s.on b o in
-            absurd (omega (arith, f.ends))
+    module _ (call : t ≡ tag_call) (first : Given) (gf : GuardAt c (at + 1) v env first) where
+      pub guard_broken : (r : Given) → first.end ≤ at → GuardAt c at v env r
+      unfolding GuardAt
+      guard_broken r h g rest bindings p i e b o =
+          let s = call_parts c at t et call g rest p i e in
+          let f = gf s.left (words s.right ++ rest) bindings s.plain_left s.guard_left s.on b o in
+          absurd (omega (arith, f.ends))
 
-        pub guard_call : (second : Given) → GuardAt c first.end v env second → (k : ℕ) → k ≡ k_of (get_or c at 0) → (r : Given) → Operates c v k first.what second.what r.what → r.end ≡ second.end
-            → GuardAt c at v env r
-        unfolding GuardAt Operates
-        guard_call second gs k ek r op re g rest bindings p i e b o =
-            let s = call_parts c at t et no-variable call g rest p i e in
-            let f = gf s.left (words s.right ++ rest) bindings s.plain_left s.guard_left s.on b o in
-            let on : drop first.end c ≡ words s.right ++ rest = ap (λ (j : ℕ). drop j c) f.ends ∙ past_term c (at + 1) s.left (words s.right ++ rest) s.on in
-            let h = gs s.right rest bindings s.plain_right s.guard_right on b o in
-            record {
-              gives = subst (Gives c v r.what) (ap (λ (m : ℕ). operate_both m (guard_gives (bind bindings s.left)) (guard_gives (bind bindings s.right))) (ek ∙ s.k_is) ∙ sym (s.gives bindings)) (op _ _ f.gives h.gives);
-              ends = re ∙ h.ends ∙ omega (arith, f.ends, s.long);
-            }
+      pub guard_call : (second : Given) → GuardAt c first.end v env second → (k : ℕ) → k ≡ k_of (get_or c at 0) → (r : Given) → Operates c v k first.what second.what r.what → r.end ≡ second.end
+          → GuardAt c at v env r
+      unfolding GuardAt Operates
+      guard_call second gs k ek r op re g rest bindings p i e b o =
+          let s = call_parts c at t et call g rest p i e in
+          let f = gf s.left (words s.right ++ rest) bindings s.plain_left s.guard_left s.on b o in
+          let on : drop first.end c ≡ words s.right ++ rest = ap (λ (j : ℕ). drop j c) f.ends ∙ past_term c (at + 1) s.left (words s.right ++ rest) s.on in
+          let h = gs s.right rest bindings s.plain_right s.guard_right on b o in
+          record {
+            gives = subst (Gives c v r.what) (ap (λ (m : ℕ). operate_both m (guard_gives (bind bindings s.left)) (guard_gives (bind bindings s.right))) (ek ∙ s.k_is) ∙ sym (s.gives bindings)) (op _ _ f.gives h.gives);
+            ends = re ∙ h.ends ∙ omega (arith, f.ends, s.long);
+          }
 
 -- ---- whether a guard holds
-abbrev holds_some : Option Term → Bool
+abbrev holds_some : Maybe Term → Bool
 holds_some none = false
 holds_some (some v) = same_term v (truth true)
 
@@ -240,7 +245,7 @@ holds_is : (g : Term) → guard_holds g ≡ holds_some (guard_gives g)
 unfolding guard_holds
 holds_is g = go (guard_gives g)
   where
-    go : (o : Option Term) → ◌≡◌ {A = Bool} (elim o [ none ↦ false | some v ↦ same_term v (truth true) ]) (holds_some o)
+    go : (o : Maybe Term) → ◌≡◌ {A = Bool} (elim o [ none ↦ false | some v ↦ same_term v (truth true) ]) (holds_some o)
     go none = refl
     go (some v) = refl
 
@@ -255,7 +260,7 @@ true_not_long : is_long (truth true) ≡ false
 unfolding is_long truth
 true_not_long = refl
 
-short_true_is : (w x : ℕ) (o : Option Term) → ShortIs w x o → eqb w true_word ≡ holds_some o
+short_true_is : (w x : ℕ) (o : Maybe Term) → ShortIs w x o → eqb w true_word ≡ holds_some o
 short_true_is w x o s = go (ℕ_discrete w true_word)
   where
     go : Dec (w ≡ true_word) → eqb w true_word ≡ holds_some o
@@ -264,23 +269,25 @@ short_true_is w x o s = go (ℕ_discrete w true_word)
         let z : x ≡ 0 = s.plain (λ y. omega (arith, e, y)) in
         eqb_of w true_word e ∙ sym (ap holds_some s.gives ∙ ap₂ (λ (i j : ℕ). same_term (short_term i j) (truth true)) e z ∙ ap (same_term (short_term true_word 0)) (sym true_short) ∙ same_self true_word 0)
 
-long_true_is : (row : List ℕ) (at : ℕ) (o : Option Term) → LongIs row at o → false ≡ holds_some o
+long_true_is : (row : List ℕ) (at : ℕ) (o : Maybe Term) → LongIs row at o → false ≡ holds_some o
 long_true_is row at o s = sym (ap holds_some s.gives ∙ (long_short s.term (truth true) s.long true_not_long).0)
 
 module _ (c : List ℕ) (at : ℕ) (v env : List ℕ) (r : Given) (g : GuardAt c at v env r) where
-  pub holds_short : (w x : ℕ) → r.what ≡ Short w x → HoldsAt c at v env (eqb w true_word)
-  unfolding GuardAt HoldsAt
-  holds_short w x e t rest bindings p i d b o =
-      short_true_is w x _ (gives_short r.what w x e c v _ (g t rest bindings p i d b o).gives) ∙ sym (holds_is (bind bindings t))
-
-  pub holds_here : (i : ℕ) → r.what ≡ Here i → HoldsAt c at v env false
-  unfolding GuardAt HoldsAt
-  holds_here j e t rest bindings p i d b o = long_true_is c j _ (gives_here r.what j e c v _ (g t rest bindings p i d b o).gives) ∙ sym (holds_is (bind bindings t))
-
-  pub holds_there : (i : ℕ) → r.what ≡ There i → HoldsAt c at v env false
-  unfolding GuardAt HoldsAt
-  holds_there j e t rest bindings p i d b o = long_true_is v j _ (gives_there r.what j e c v _ (g t rest bindings p i d b o).gives) ∙ sym (holds_is (bind bindings t))
-
-  pub holds_stuck : r.what ≡ Stuck → HoldsAt c at v env false
+  pub holds_stuck : r.what ≡ None → HoldsAt c at v env false
   unfolding GuardAt HoldsAt
   holds_stuck e t rest bindings p i d b o = sym (holds_is (bind bindings t) ∙ ap holds_some (gives_stuck r.what e c v _ (g t rest bindings p i d b o).gives))
+
+  module _ (x : Operand) (ex : r.what ≡ Some x) where
+    pub holds_short : (w p : ℕ) → x ≡ Short w p → HoldsAt c at v env (eqb w true_word)
+    unfolding GuardAt HoldsAt
+    holds_short w q e t rest bindings p i d b o =
+        short_true_is w q _ (gives_short r.what w q (ex ∙ ap Some e) c v _ (g t rest bindings p i d b o).gives) ∙ sym (holds_is (bind bindings t))
+
+    pub holds_long : ((w p : ℕ) → x ≡ Short w p → ⊥) → HoldsAt c at v env false
+    unfolding GuardAt HoldsAt Gives
+    holds_long n t rest bindings p i d b o = go x n (subst (λ (y : Option Operand). Gives c v y (guard_gives (bind bindings t))) ex (g t rest bindings p i d b o).gives) ∙ sym (holds_is (bind bindings t))
+      where
+        go : (y : Operand) → ((w q : ℕ) → y ≡ Short w q → ⊥) → Gives c v (Some y) (guard_gives (bind bindings t)) → false ≡ holds_some (guard_gives (bind bindings t))
+        go (Short w q) n l = absurd (n w q refl)
+        go (Here j) n l = long_true_is c j _ l
+        go (There j) n l = long_true_is v j _ l

@@ -1,6 +1,6 @@
 -- What the functions on guards and clauses promise.
-use Rattle.std.specs.Prelude.{ℕ, ◌+◌, ◌≡◌, ◌⊎◌, Bool, true, List, ◌++◌, length, drop, get_or}
-use Rattle.std.proofs.Math.Option.{Option, some}
+use Rattle.std.specs.Prelude.{ℕ, ◌+◌, ◌≡◌, ◌⊎◌, Bool, true, List, ◌++◌, length, drop, get_or, Option}
+use Rattle.std.proofs.Math.Option.{Option as Maybe, some}
 use Rattle.term.specs.Words.{tag_call, tag_variable}
 use Rattle.term.specs.Tree.{Term, Terms, int, node, end, ◌then◌, words, count}
 use Rattle.term.specs.Value.{is_value}
@@ -27,8 +27,8 @@ unfoldable mutual
   AreGuards (t then ts) = IsGuard t × AreGuards ts
 
 -- what the entry of a variable gives, as an operand
-unfoldable pub Looked : (v env : List ℕ) (k : ℕ) → Operand → Type 0
-Looked v env k r = (here : List ℕ) (o : Option Term) → Entry v (get_or env k 0) o → ((t : Term) → o ≡ some t → is_value t ≡ true) → Gives here v r o
+unfoldable pub Looked : (v env : List ℕ) (k : ℕ) → Option Operand → Type 0
+Looked v env k r = (here : List ℕ) (o : Maybe Term) → Entry v (get_or env k 0) o → ((t : Term) → o ≡ some t → is_value t ≡ true) → Gives here v r o
 
 pub record GuardIs (c : List ℕ) (at : ℕ) (v : List ℕ) (bindings : Bindings) (g : Term) (r : Given) : Type 0 where
   pub gives : Gives c v r.what (guard_gives (bind bindings g))

@@ -10,22 +10,17 @@ use rows::words::{CALL, VARIABLE, k, tag};
 // What a guard gives, and where it ends.
 #[derive(Clone, Copy)]
 pub struct Given {
-    pub what: Operand,
+    pub what: Option<Operand>,
     pub end: usize,
 }
 
-// The value of variable `x`.
-fn bound(v: &[u32], env: &[u32], x: usize) -> Operand
+// The value of variable `x`. An entry is a word: the place after the value's, and 0 where there is none.
+fn bound(v: &[u32], env: &[u32], x: usize) -> Option<Operand>
     ensures { Looked v.now env.now x result }
 {
-    if env.len() <= x {
-        return Operand::Stuck;
-    }
-    let e = env[x] as usize;
-    if e == 0 {
-        return Operand::Stuck;
-    }
-    elsewhere(v, e - 1)
+    let after = *env.get(x)? as usize;
+    let place = after.checked_sub(1)?;
+    elsewhere(v, place)
 }
 
 // What the guard at `at` in `c` gives, where `env` has the places of values in `v`; stuck where none stands, which the control check rules out.
@@ -35,37 +30,36 @@ pub fn guard(c: &[u32], at: usize, v: &[u32], env: &[u32]) -> Given
 {
     if c.len() <= at {
         return Given {
-            what: Operand::Stuck,
+            what: None,
             end: at,
         };
     }
     let w = c[at];
-    let t = tag(w);
-    if t == VARIABLE {
-        return Given {
+    match tag(w) {
+        VARIABLE => Given {
             what: bound(v, env, k(w) as usize),
             end: at + 1,
-        };
-    }
-    if t != CALL {
-        return Given {
+        },
+        CALL => {
+            let first = guard(c, at + 1, v, env);
+            if first.end <= at {
+                return Given {
+                    what: None,
+                    end: at,
+                };
+            }
+            let second = guard(c, first.end, v, env);
+            let x = first.what;
+            let y = second.what;
+            Given {
+                what: operate(c, v, k(w), x, y),
+                end: second.end,
+            }
+        }
+        _ => Given {
             what: here(c, at),
             end: skip(c, at, 1),
-        };
-    }
-    let first = guard(c, at + 1, v, env);
-    if first.end <= at {
-        return Given {
-            what: Operand::Stuck,
-            end: at,
-        };
-    }
-    let second = guard(c, first.end, v, env);
-    let x = first.what;
-    let y = second.what;
-    Given {
-        what: operate(c, v, k(w), x, y),
-        end: second.end,
+        },
     }
 }
 
@@ -74,12 +68,11 @@ pub fn holds(c: &[u32], at: usize, v: &[u32], env: &[u32]) -> bool
     requires { (length c.now < walk_limit) × (length v.now < walk_limit) }
     ensures { HoldsAt c.now at v.now env.now result }
 {
-    let r = guard(c, at, v, env);
-    let what = r.what;
+    let Some(what) = guard(c, at, v, env).what else {
+        return false;
+    };
     match what {
-        Operand::Short(w, x) => w == TRUE_WORD,
-        Operand::Here(i) => false,
-        Operand::There(i) => false,
-        Operand::Stuck => false,
+        Operand::Short(w, _) => w == TRUE_WORD,
+        _ => false,
     }
 }

@@ -1,13 +1,13 @@
 // Operands: what a value or a guard's part gives, and the operators on them.
-ghost use Rattle.std.specs.Prelude.{◌≡◌, ◌<◌, length};
+ghost use Rattle.std.specs.Prelude.{◌≡◌, ◌<◌, length, Some};
 ghost use Rattle.std.proofs.Math.Option.{some};
 ghost use Rattle.machine.specs.Value.{truth};
 ghost use Rattle.machine.specs.Operator.{on_integers, signed};
 ghost use Rattle.row_laws.specs.Bounds.{walk_limit};
 ghost use Rattle.operands.specs.Answers.{number};
-ghost use Rattle.operands.specs.Operands.{GivesAnywhere, Equals, Operates, StandsHere, StandsThere, SameShort, SameLong, WithShort, Arithmetic, is_stuck};
+ghost use Rattle.operands.specs.Operands.{GivesAnywhere, Equals, Operates, StandsHere, StandsThere, SameShort, SameLong, Arithmetic};
 
-use crate::integer::{AT_MOST, EQUAL, LESS, Number, UNEQUAL, compute, value, word};
+use crate::integer::{AT_MOST, EQUAL, LESS, UNEQUAL, compute};
 use crate::same::same;
 use rows::words::{CONS, INTEGER_WORD, TUPLE, tag};
 
@@ -16,16 +16,16 @@ pub const TRUE_WORD: u32 = 0x0200_0000;
 
 pub const FALSE_WORD: u32 = TRUE_WORD + 1;
 
+// A stuck operand is none.
 #[derive(Clone, Copy)]
 pub enum Operand {
     Short(u32, u32),
     Here(usize),
     There(usize),
-    Stuck,
 }
 
 pub fn truth_of(b: bool) -> Operand
-    ensures { GivesAnywhere result (some (truth b)) }
+    ensures { GivesAnywhere (Some result) (some (truth b)) }
 {
     if b {
         return Operand::Short(TRUE_WORD, 0);
@@ -33,66 +33,48 @@ pub fn truth_of(b: bool) -> Operand
     Operand::Short(FALSE_WORD, 0)
 }
 
-pub fn number_of(r: Number) -> Operand
+pub fn number_of(r: Option<i32>) -> Option<Operand>
     ensures { GivesAnywhere result (number r) }
 {
-    match r {
-        Number::Value(z) => Operand::Short(INTEGER_WORD, word(z)),
-        Number::Stuck => Operand::Stuck,
-    }
+    let z = r?;
+    Some(Operand::Short(INTEGER_WORD, z.cast_unsigned()))
 }
 
 // An operator but =:= and =/= on the integers of two words.
-pub fn on_integers(op: u32, a: u32, b: u32) -> Operand
+pub fn on_integers(op: u32, a: u32, b: u32) -> Option<Operand>
     ensures { GivesAnywhere result (on_integers op (signed a) (signed b)) }
 {
-    let x = value(a);
-    let y = value(b);
-    if op == LESS {
-        return truth_of(x < y);
+    let x = a.cast_signed();
+    let y = b.cast_signed();
+    match op {
+        LESS => Some(truth_of(x < y)),
+        AT_MOST => Some(truth_of(x <= y)),
+        _ => number_of(compute(op, x, y)),
     }
-    if op == AT_MOST {
-        return truth_of(x <= y);
-    }
-    let z = compute(op, x, y);
-    number_of(z)
 }
 
 // The value at `at`, in the row where it is used; stuck where none stands, which the control check rules out.
-pub fn here(row: &[u32], at: usize) -> Operand
+pub fn here(row: &[u32], at: usize) -> Option<Operand>
     ensures { StandsHere row.now at result }
 {
-    if row.len() <= at {
-        return Operand::Stuck;
-    }
-    let w = row[at];
+    let w = *row.get(at)?;
     let t = tag(w);
-    if t == CONS {
-        return Operand::Here(at);
-    }
-    if t == TUPLE {
-        return Operand::Here(at);
+    if t == CONS || t == TUPLE {
+        return Some(Operand::Here(at));
     }
     if w != INTEGER_WORD {
-        return Operand::Short(w, 0);
+        return Some(Operand::Short(w, 0));
     }
-    if row.len() - at < 2 {
-        return Operand::Stuck;
-    }
-    Operand::Short(w, row[at + 1])
+    Some(Operand::Short(w, *row.get(at + 1)?))
 }
 
 // The same value, taken in another row.
-pub fn elsewhere(row: &[u32], at: usize) -> Operand
+pub fn elsewhere(row: &[u32], at: usize) -> Option<Operand>
     ensures { StandsThere row.now at result }
 {
-    let x = here(row, at);
-    match x {
-        Operand::Short(w, p) => Operand::Short(w, p),
-        Operand::Here(i) => Operand::There(i),
-        // Never so: `here` takes its values from one row.
-        Operand::There(i) => Operand::There(i),
-        Operand::Stuck => Operand::Stuck,
+    match here(row, at)? {
+        Operand::Here(i) => Some(Operand::There(i)),
+        other => Some(other),
     }
 }
 
@@ -102,9 +84,7 @@ fn same_short(w: u32, p: u32, y: Operand) -> bool
 {
     match y {
         Operand::Short(v, q) => w == v && p == q,
-        Operand::Here(j) => false,
-        Operand::There(j) => false,
-        Operand::Stuck => false,
+        _ => false,
     }
 }
 
@@ -120,83 +100,54 @@ fn same_long(a: &[u32], i: usize, here: &[u32], there: &[u32], y: Operand) -> bo
     match y {
         Operand::Here(j) => same(a, i, here, j, 1),
         Operand::There(j) => same(a, i, there, j, 1),
-        Operand::Short(v, q) => false,
-        Operand::Stuck => false,
+        Operand::Short(..) => false,
     }
 }
 
 // Whether two operands are the same value.
-pub fn equal(here: &[u32], there: &[u32], x: Operand, y: Operand) -> bool
+pub fn equal(here: &[u32], there: &[u32], x: Option<Operand>, y: Option<Operand>) -> bool
     requires { (length here.now < walk_limit) × (length there.now < walk_limit) }
     ensures { Equals here.now there.now x y result }
 {
+    let (Some(x), Some(y)) = (x, y) else {
+        return false;
+    };
     match x {
         Operand::Short(w, p) => same_short(w, p, y),
         Operand::Here(i) => same_long(here, i, here, there, y),
         Operand::There(i) => same_long(there, i, here, there, y),
-        Operand::Stuck => false,
     }
 }
 
-// An operator but =:= and =/= on a short value and an operand: both are integers, or it is stuck.
-fn with_short(op: u32, w: u32, a: u32, y: Operand) -> Operand
-    ensures { WithShort op w a y result }
-{
-    if w != INTEGER_WORD {
-        return Operand::Stuck;
-    }
-    match y {
-        Operand::Short(v, b) => {
-            if v != INTEGER_WORD {
-                return Operand::Stuck;
-            }
-            on_integers(op, a, b)
-        }
-        Operand::Here(j) => Operand::Stuck,
-        Operand::There(j) => Operand::Stuck,
-        Operand::Stuck => Operand::Stuck,
-    }
-}
-
-// The same on two operands.
-fn arithmetic(op: u32, x: Operand, y: Operand) -> Operand
+// An operator but =:= and =/=: both operands are integers, or it is stuck.
+fn arithmetic(op: u32, x: Operand, y: Operand) -> Option<Operand>
     ensures { Arithmetic op x y result }
 {
-    match x {
-        Operand::Short(w, a) => with_short(op, w, a, y),
-        Operand::Here(i) => Operand::Stuck,
-        Operand::There(i) => Operand::Stuck,
-        Operand::Stuck => Operand::Stuck,
+    let (Operand::Short(w, a), Operand::Short(v, b)) = (x, y) else {
+        return None;
+    };
+    if w != INTEGER_WORD || v != INTEGER_WORD {
+        return None;
     }
-}
-
-fn is_stuck(x: Operand) -> bool
-    ensures { result ≡ is_stuck x }
-{
-    match x {
-        Operand::Stuck => true,
-        Operand::Short(w, p) => false,
-        Operand::Here(i) => false,
-        Operand::There(i) => false,
-    }
+    on_integers(op, a, b)
 }
 
 // An operator on two operands.
-pub fn operate(here: &[u32], there: &[u32], op: u32, x: Operand, y: Operand) -> Operand
+pub fn operate(
+    here: &[u32],
+    there: &[u32],
+    op: u32,
+    x: Option<Operand>,
+    y: Option<Operand>,
+) -> Option<Operand>
     requires { (length here.now < walk_limit) × (length there.now < walk_limit) }
     ensures { Operates here.now there.now op x y result }
 {
-    if is_stuck(x) {
-        return Operand::Stuck;
+    let first = x?;
+    let second = y?;
+    match op {
+        EQUAL => Some(truth_of(equal(here, there, x, y))),
+        UNEQUAL => Some(truth_of(!equal(here, there, x, y))),
+        _ => arithmetic(op, first, second),
     }
-    if is_stuck(y) {
-        return Operand::Stuck;
-    }
-    if op == EQUAL {
-        return truth_of(equal(here, there, x, y));
-    }
-    if op == UNEQUAL {
-        return truth_of(!equal(here, there, x, y));
-    }
-    arithmetic(op, x, y)
 }

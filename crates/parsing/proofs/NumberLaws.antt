@@ -1,8 +1,8 @@
 -- Laws of numbers in texts: digits read one after another, one number, two numbers with a comma between them.
-use mathlib.Core.Path.{◌≡◌, refl, sym, ap, ◌∙◌}
+use mathlib.Core.Path.{◌≡◌, refl, sym, ◌∙◌}
 use mathlib.Core.Logic.{inl, inr}
 use mathlib.Core.Bool.{Bool, true, false, ◌&&◌}
-use mathlib.Core.Option.{Option, none, some}
+use mathlib.Core.Option.{Option as Maybe, none, some}
 use mathlib.Core.List.{List, [], ◌∷◌}
 use Prim.Native.Nat.{ℕ, suc, ◌+◌, ◌-◌, ◌*◌, ◌<◌, ◌≤◌}
 use native.Mathlib.Omega.{arith}
@@ -14,9 +14,8 @@ use lib.Seq.{drop-cons, take_all}
 use Rattle.lists.proofs.Tests.{eqb_of, eqb_apart, eqb-true, leb_of, leb_over, and_of, true_or_false, none_not_some}
 use Rattle.rules.specs.Text.{comma, zero_digit}
 use Rattle.rules.specs.Line.{Request, split, digits_say, of_byte, number, one_number, two_numbers}
-use Rattle.parsing.specs.declared.parsing.Number.{Number}
-use Rattle.parsing.specs.declared.parsing.Number.TheVariants.{Value, Not}
-use Rattle.parsing.specs.declared.parsing.Pair.TheVariants.{Values, Neither}
+use Rattle.std.specs.Prelude.{Option, Some, None}
+use Rattle.std.specs.Char.{IsAsciiDigit, IsNotAsciiDigit}
 use Rattle.parsing.specs.Pieces.{before, piece_end}
 use Rattle.parsing.specs.Requests.{number_said, asked_by, ReadsPair}
 use Rattle.parsing.proofs.PieceLaws.{before_within, split_more, split_last, split_some}
@@ -31,6 +30,10 @@ digit_high b h = rw (leb_over b (zero_digit + 9) h) (right (leb zero_digit b))
     right : (a : Bool) → (a && false) ≡ false
     right true = refl
     right false = refl
+
+digit_out : (b : ℕ) → IsNotAsciiDigit b → (leb zero_digit b && leb b (zero_digit + 9)) ≡ false
+digit_out b (inl l) = digit_low b l
+digit_out b (inr g) = digit_high b g
 
 digit_in : (b : ℕ) → 48 ≤ b → b ≤ 57 → (leb zero_digit b && leb b (zero_digit + 9)) ≡ true
 digit_in b h g = and_of (leb_of zero_digit b h) (leb_of b (zero_digit + 9) g)
@@ -52,49 +55,47 @@ say_large n (b ∷ bs) h = elim (true_or_false (leb zero_digit b && leb b (zero_
   | inr f ↦ rw (say_not n b bs f) refl
 ]
 
-module _ (text : List ℕ) (n i : ℕ) (all : Option ℕ) (here : of_byte (digits_say n (drop i text)) ≡ all) where
-  pub digits_low : i < length text → get_or text i 0 < 48 → number_said Not ≡ all
+module _ (text : List ℕ) (n i : ℕ) (all : Maybe ℕ) (here : of_byte (digits_say n (drop i text)) ≡ all) where
+  pub digits_not : i < length text → IsNotAsciiDigit (get_or text i 0) → number_said None ≡ all
   unfolding number_said of_byte
-  digits_low h l = (rw (drop-cons text i 0 h, say_not n (get_or text i 0) (drop (suc i) text) (digit_low (get_or text i 0) l)) at here)
+  digits_not h o = (rw (drop-cons text i 0 h, say_not n (get_or text i 0) (drop (suc i) text) (digit_out (get_or text i 0) o)) at here)
 
-  pub digits_high : i < length text → 57 < get_or text i 0 → number_said Not ≡ all
-  unfolding number_said of_byte
-  digits_high h l = (rw (drop-cons text i 0 h, say_not n (get_or text i 0) (drop (suc i) text) (digit_high (get_or text i 0) l)) at here)
+  -- a digit, as the code tests it, and its value
+  module _ (d : ℕ) (value : d ≡ get_or text i 0 - 48) (h : i < length text) (digit : IsAsciiDigit (get_or text i 0)) where
+    pub digits_more : of_byte (digits_say (n * 10 + d) (drop (i + 1) text)) ≡ all
+    digits_more = rw (value, add-one i) (rw (drop-cons text i 0 h, say_digit n (get_or text i 0) (drop (suc i) text) (digit_in (get_or text i 0) digit.0 digit.1)) at here)
 
-  pub digits_more : i < length text → 48 ≤ get_or text i 0 → get_or text i 0 ≤ 57 → of_byte (digits_say (n * 10 + (get_or text i 0 - 48)) (drop (i + 1) text)) ≡ all
-  digits_more h l g = rw (add-one i) (rw (drop-cons text i 0 h, say_digit n (get_or text i 0) (drop (suc i) text) (digit_in (get_or text i 0) l g)) at here)
+    pub digits_large : 255 < n * 10 + d → number_said None ≡ all
+    unfolding number_said
+    digits_large x = sym (say_large (n * 10 + d) (drop (i + 1) text) x) ∙ digits_more
 
-  pub digits_large : i < length text → 48 ≤ get_or text i 0 → get_or text i 0 ≤ 57 → 255 < n * 10 + (get_or text i 0 - 48) → number_said Not ≡ all
-  unfolding number_said
-  digits_large h l g x = sym (say_large (n * 10 + (get_or text i 0 - 48)) (drop (i + 1) text) x) ∙ digits_more h l g
-
-  pub digits_all : length text ≤ i → n ≤ 255 → number_said (Value n) ≡ all
+  pub digits_all : length text ≤ i → n ≤ 255 → number_said (Some n) ≡ all
   unfolding number_said of_byte digits_say
   digits_all h l = (rw (drop_of_length-le text {i = i} h, leb_of n 255 l) at here)
 
 -- one number: nothing, a single byte, a leading zero, anything else
-pub number_none : (text : List ℕ) → length text ≡ 0 → number_said Not ≡ number text
+pub number_none : (text : List ℕ) → length text ≡ 0 → number_said None ≡ number text
 unfolding number number_said
 number_none [] h = refl
 number_none (b ∷ bs) h = absurd (omega arith)
 
-pub number_single : (text : List ℕ) (r : Number) → length text ≡ 1 → number_said r ≡ of_byte (digits_say 0 text) → number_said r ≡ number text
+pub number_single : (text : List ℕ) (r : Option ℕ) → ¬ (length text ≡ 0) → length text ≤ 1 → number_said r ≡ of_byte (digits_say 0 text) → number_said r ≡ number text
 unfolding number
-number_single [] r h e = absurd (omega arith)
-number_single (b ∷ []) r h e = e
-number_single (b ∷ (d ∷ ds)) r h e = absurd (omega arith)
+number_single [] r h g e = absurd (h refl)
+number_single (b ∷ []) r h g e = e
+number_single (b ∷ (d ∷ ds)) r h g e = absurd (omega arith)
 
-pub number_zero : (text : List ℕ) → ¬ (length text ≡ 0) → ¬ (length text ≡ 1) → get_or text 0 0 ≡ 48 → number_said Not ≡ number text
+pub number_zero : (text : List ℕ) → 1 < length text → get_or text 0 0 ≡ 48 → number_said None ≡ number text
 unfolding number number_said
-number_zero [] h g z = absurd (h refl)
-number_zero (b ∷ []) h g z = absurd (g refl)
-number_zero (b ∷ (d ∷ ds)) h g z = rw (eqb_of b zero_digit z, number) refl
+number_zero [] h z = absurd (omega arith)
+number_zero (b ∷ []) h z = absurd (omega arith)
+number_zero (b ∷ (d ∷ ds)) h z = rw (eqb_of b zero_digit z, number) refl
 
-pub number_other : (text : List ℕ) (r : Number) → ¬ (length text ≡ 0) → ¬ (length text ≡ 1) → ¬ (get_or text 0 0 ≡ 48) → number_said r ≡ of_byte (digits_say 0 text) → number_said r ≡ number text
+pub number_other : (text : List ℕ) (r : Option ℕ) → 1 < length text → ¬ (get_or text 0 0 ≡ 48) → number_said r ≡ of_byte (digits_say 0 text) → number_said r ≡ number text
 unfolding number
-number_other [] r h g z e = absurd (h refl)
-number_other (b ∷ []) r h g z e = absurd (g refl)
-number_other (b ∷ (d ∷ ds)) r h g z e = rw (eqb_apart b zero_digit z, number) e
+number_other [] r h z e = absurd (omega arith)
+number_other (b ∷ []) r h z e = absurd (omega arith)
+number_other (b ∷ (d ∷ ds)) r h z e = rw (eqb_apart b zero_digit z, number) e
 
 -- a text with a comma is no number
 say_comma : (n : ℕ) (bs : List ℕ) → before comma bs < length bs → digits_say n bs ≡ none
@@ -178,20 +179,20 @@ pub part_after : (text : List ℕ) (at : ℕ) → take (length text - at) (drop 
 part_after text at = take_all (length text - at) (drop at text) (omega (arith, length-drop at text))
 
 module _ (text : List ℕ) (m : ℕ) (e : m ≡ piece_end comma text 0) where
-  pub pair_single : length text ≤ m → ReadsPair text Neither
+  pub pair_single : length text ≤ m → ReadsPair text None
   unfolding ReadsPair asked_by two_numbers piece_end
   pair_single h request = let b = before_within comma text in rw (split_last comma text (omega arith)) refl
 
-  module _ (g : Number) (h : m < length text) (first : number_said g ≡ number (take m text)) where
-    pub pair_first : g ≡ Not → ReadsPair text Neither
+  module _ (h : m < length text) where
+    pub pair_first : number_said None ≡ number (take m text) → ReadsPair text None
     unfolding ReadsPair asked_by number_said
-    pair_first n request = sym (rw (comma_at text m e h) (two_first request (take m text) (split comma (drop (m + 1) text)) (sym first ∙ ap number_said n)))
+    pair_first first request = sym (rw (comma_at text m e h) (two_first request (take m text) (split comma (drop (m + 1) text)) (sym first)))
 
-    module _ (a : ℕ) (one : g ≡ Value a) (k : Number) (second : number_said k ≡ number (take (length text - (m + 1)) (drop (m + 1) text))) where
-      pub pair_second : k ≡ Not → ReadsPair text Neither
+    module _ (a : ℕ) (first : number_said (Some a) ≡ number (take m text)) where
+      pub pair_second : number_said None ≡ number (take (length text - (m + 1)) (drop (m + 1) text)) → ReadsPair text None
       unfolding ReadsPair asked_by number_said
-      pair_second n request = sym (rw (comma_at text m e h) (two_second request (take m text) (drop (m + 1) text) a (sym first ∙ ap number_said one) (sym (rw (part_after text (m + 1)) at second) ∙ ap number_said n)))
+      pair_second second request = sym (rw (comma_at text m e h) (two_second request (take m text) (drop (m + 1) text) a (sym first) (sym (rw (part_after text (m + 1)) at second))))
 
-      pub pair_both : (b : ℕ) → k ≡ Value b → ReadsPair text (Values a b)
+      pub pair_both : (b : ℕ) → number_said (Some b) ≡ number (take (length text - (m + 1)) (drop (m + 1) text)) → ReadsPair text (Some (a, b))
       unfolding ReadsPair asked_by number_said
-      pair_both b two request = sym (rw (comma_at text m e h) (two_both request (take m text) (drop (m + 1) text) a b (sym first ∙ ap number_said one) (sym (rw (part_after text (m + 1)) at second) ∙ ap number_said two)))
+      pair_both b second request = sym (rw (comma_at text m e h) (two_both request (take m text) (drop (m + 1) text) a b (sym first) (sym (rw (part_after text (m + 1)) at second))))

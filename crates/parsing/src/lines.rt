@@ -6,12 +6,10 @@ ghost use Rattle.parsing.specs.Pieces.{piece_end};
 pub fn piece_end(text: &[u8], at: usize, separator: u8) -> usize
     ensures { result ≡ piece_end separator text.now at }
 {
-    let mut i = at;
-    while i < text.len() {
+    for i in at..text.len() {
         if text[i] == separator {
             return i;
         }
-        i += 1;
     }
     text.len()
 }

@@ -6,17 +6,7 @@ ghost use Rattle.prefixes.specs.Prefixes.{begins as begins_with, left_begins};
 pub fn begins(front: &[u32], whole: &[u32]) -> bool
     ensures { result ≡ begins_with front.now whole.now }
 {
-    if whole.len() < front.len() {
-        return false;
-    }
-    let mut i = 0;
-    while i < front.len() {
-        if front[i] != whole[i] {
-            return false;
-        }
-        i += 1;
-    }
-    true
+    whole.starts_with(front)
 }
 
 // Whether a queue without the message at a place is a prefix of another; before the first rec the queue is empty.
@@ -26,8 +16,5 @@ pub fn left_begins(before: &[u32], taken: usize, after: &[u32]) -> bool
     if before.len() <= taken {
         return begins(before, after);
     }
-    if !begins(&before[..taken], after) {
-        return false;
-    }
-    begins(&before[taken + 1..], &after[taken..])
+    begins(&before[..taken], after) && begins(&before[taken + 1..], &after[taken..])
 }

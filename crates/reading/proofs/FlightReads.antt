@@ -69,10 +69,10 @@ module _ (l : List ℕ) (s i q : ℕ) where
       g st rest h e x.target x.value stands says ∙ sym (ap (flies_by st q s i) says)
 
   module _ (target : ℕ) (there-is : OfState l (IsSend s i)) (f : OfState l (OfSend s i (λ t v. target ≡ t))) where
-    pub flies_other : ¬ (target ≡ q) → Flies false
+    pub flies_other : ¬ (target ≡ q) → Flies (eqb target q)
     unfolding OfSend
-    flies_other n = by_send false (λ st rest h e t v stands says.
-        sym (flies_elsewhere st q s (sends (oldest i (history_at st s))) t v (sent_there (history_at st s) i stands says) (λ z. n (holding _ f st rest h e t v stands says ∙ z)))) there-is
+    flies_other n = by_send (eqb target q) (λ st rest h e t v stands says.
+        eqb_apart target q n ∙ sym (flies_elsewhere st q s (sends (oldest i (history_at st s))) t v (sent_there (history_at st s) i stands says) (λ z. n (holding _ f st rest h e t v stands says ∙ z)))) there-is
 
     pub flies_this : target ≡ q → (name : ℕ) → NameAt l s i name → (come : Bool) → OfState l (λ st. come ≡ has_come st (sender_of name) (count_of name) q) → Flies (not come)
     unfolding OfSend

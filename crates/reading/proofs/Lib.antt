@@ -7,3 +7,4 @@ pub mod Naming
 pub mod SendReads
 pub mod MailReads
 pub mod FlightReads
+pub mod KindReads

@@ -1,15 +1,16 @@
 -- Counting sends, finding one, and looking for a message among names and among what recs took, said of the state that a store holds.
-use Prim.Native.Nat.{ℕ, suc, ◌+◌, ◌-◌, ◌≤◌, ◌<◌}
-use mathlib.Core.Path.{◌≡◌, refl, sym, ◌∙◌, ap, subst}
+use Rattle.std.proofs.Common.{None, Some, nat_eq}
+use Rattle.std.specs.List.{list_any}
+use Rattle.std.proofs.lemmas.Cmp.{nat_eq_equiv}
+use Prim.Native.Nat.{ℕ, ◌+◌, ◌-◌, ◌≤◌, ◌<◌}
+use mathlib.Core.Path.{◌≡◌, refl, sym, ◌∙◌, ap}
 use mathlib.Core.Bool.{Bool, true, false, ◌||◌}
 use mathlib.Core.Option.{Option, none, some}
 use mathlib.Core.List.{List, [], ◌∷◌, ◌++◌, map}
 use native.Mathlib.Decide.{ℕ_discrete}
-use native.Mathlib.Numerals.{add-one}
 use native.Mathlib.Omega.{arith}
 use lib.Dec.{eqb}
 use lib.ListN.{length, drop, get_or, length-append, length-map, length-drop}
-use lib.Seq.{drop-cons, drop-length}
 use Rattle.lists.specs.Lists.{any, member}
 use Rattle.lists.proofs.Tests.{true_not_false, eqb_of, eqb_apart, or_left, or_right, or_false}
 use Rattle.rules.specs.State.{Message, Letter, letter, Taking, taking, as_send, as_rec, Entry, State, history_at, entry_at, is_named}
@@ -20,7 +21,6 @@ use Rattle.store.specs.Image.{IsImage}
 use Rattle.store.specs.Layout.{kind_send, kind_rec, name_word, kind_number, number_in}
 use Rattle.store.proofs.Histories.{sends_few}
 use Rattle.store.proofs.SoundStates.{sizes_in_lem}
-use Rattle.reading.specs.declared.found.Found.TheVariants.{Nowhere, At}
 use Rattle.reading.specs.Reads.{Holds, OfState, IsEntry, OfEntry, IsSend, SendAt, oldest, SendFound}
 use Rattle.reading.proofs.Holding.{at_image, holding, of_state}
 use Rattle.reading.proofs.Oldest.{send_by_kind, other_by_kind, rec_by_kind, none_by_kind, entry_exists, oldest_all, parted, sends_none, not_sent, sent_there, took_this, took_nothing}
@@ -58,10 +58,6 @@ unfolding oldest
 sends_low h i = let few = sends_few (drop (length h - i) h) in omega (arith, length-drop (length h - i) h)
 
 module _ (l : List ℕ) where
-  -- how many sends there are among the oldest entries
-  abbrev pub CountAt : (p j n : ℕ) → Type 0
-  CountAt p j n = OfState l (λ s. n ≡ sends (oldest j (history_at s p)))
-
   -- 1 where entry j is a send
   abbrev pub Here : (p j x : ℕ) → Type 0
   Here p j x = OfState l (OfEntry p j (λ e. x ≡ count_letter (as_send e.kind) 0))
@@ -107,17 +103,12 @@ module _ (l : List ℕ) where
         let (e, stands) = entry_exists (history_at im.state p) i (at_image _ im there-is) in
         omega (arith, at_image _ im f e stands, count_one (as_send e.kind))
 
-    pub counted : (n : ℕ) → CountAt p i n → CountAt p (i + 1) (n + x)
-    counted n c = with_entry _ λ s rest h e stands here.
-        let z = holding _ c s rest h in
-        omega (arith, sends_next (history_at s p) i stands)
-
     pub left_more : (count left : ℕ) → OfState l (λ s. count ≡ left + sends (oldest i (history_at s p))) → x ≤ left → OfState l (λ s. count ≡ left - x + sends (oldest (i + 1) (history_at s p)))
     left_more count left c b = with_entry _ λ s rest h e stands here.
         let z = holding _ c s rest h in
         omega (arith, sends_next (history_at s p) i stands)
 
-    pub found_here : (count left : ℕ) → OfState l (λ s. count ≡ left + sends (oldest i (history_at s p))) → left < x → OfState l (λ s. SendFound (history_at s p) count (At i))
+    pub found_here : (count left : ℕ) → OfState l (λ s. count ≡ left + sends (oldest i (history_at s p))) → left < x → OfState l (λ s. SendFound (history_at s p) count (Some i))
     unfolding SendFound
     found_here count left c b = with_entry _ λ s rest h e stands here.
         let (y, says) = count_letter_lem (as_send e.kind) (omega arith) in
@@ -135,16 +126,10 @@ module _ (l : List ℕ) where
 
   -- ---- the start and the end of a count
 
-  pub count_start : (p : ℕ) → CountAt p 0 0
-  count_start p = of_state _ λ s rest h. sym (sends_none (history_at s p))
-
-  pub count_done : (p i j n : ℕ) → CountAt p j n → j ≤ i → i ≤ j → CountAt p i n
-  count_done p i j n c b b' = let same : j ≡ i = omega arith in subst (λ (k : ℕ). CountAt p k n) same c
-
   pub left_start : (p count : ℕ) → OfState l (λ s. count ≡ count + sends (oldest 0 (history_at s p)))
   left_start p count = of_state _ λ s rest h. omega (arith, sends_none (history_at s p))
 
-  pub found_none : (p count left i end : ℕ) → Ends p end → OfState l (λ s. count ≡ left + sends (oldest i (history_at s p))) → i ≤ end → end ≤ i → OfState l (λ s. SendFound (history_at s p) count Nowhere)
+  pub found_none : (p count left i end : ℕ) → Ends p end → OfState l (λ s. count ≡ left + sends (oldest i (history_at s p))) → i ≤ end → end ≤ i → OfState l (λ s. SendFound (history_at s p) count None)
   unfolding SendFound
   found_none p count left i end m c b b' = of_state _ λ s rest h.
       let whole : i ≡ length (history_at s p) = omega (arith, holding _ m s rest h) in
@@ -153,25 +138,10 @@ module _ (l : List ℕ) where
 
 -- ---- a name among names
 
-module _ (names : List ℕ) (name i : ℕ) (inv : member name names ≡ member name (drop i names)) where
-  here_test : i < length names → member name names ≡ (eqb name (get_or names i 0) || member name (drop (suc i) names))
-  unfolding member
-  here_test b = inv ∙ ap (member name) (drop-cons names i 0 b)
-
-  pub among_here : i < length names → get_or names i 0 ≡ name → true ≡ member name names
-  among_here b e = sym (here_test b ∙ or_left (member name (drop (suc i) names)) (eqb_of name (get_or names i 0) (sym e)))
-
-  pub among_next : i < length names → ¬ (get_or names i 0 ≡ name) → member name names ≡ member name (drop (i + 1) names)
-  among_next b n =
-      here_test b
-      ∙ ap (λ (t : Bool). t || member name (drop (suc i) names)) (eqb_apart name (get_or names i 0) (λ e. n (sym e)))
-      ∙ ap (λ (k : ℕ). member name (drop k names)) (sym (add-one i))
-
-  pub among_none : i ≤ length names → length names ≤ i → false ≡ member name names
-  unfolding member
-  among_none b b' =
-      let whole : i ≡ length names = omega arith in
-      sym (inv ∙ ap (member name) (ap (λ (k : ℕ). drop k names) whole ∙ drop-length names))
+pub contains_name : (name : ℕ) (names : List ℕ) → list_any (λ y. nat_eq y name) names ≡ member name names
+unfolding member
+contains_name name [] = refl
+contains_name name (x ∷ xs) = λ i. nat_eq_equiv.symm x name i || contains_name name xs i
 
 -- ---- what recs took
 
@@ -270,9 +240,9 @@ module _ (l : List ℕ) (t name : ℕ) where
     in_queue : (s : State) (rest : List ℕ) → Holds l s rest → r ≡ any (by_name name) (s.queues t)
     in_queue s rest h = fr ∙ ap (member name) (holding _ fq s rest h) ∙ member_named name (s.queues t) (queue_small s h.sound t)
 
-    pub come_queue : r ≡ true → OfState l (λ s. true ≡ has_come s (sender_of name) (count_of name) t)
+    pub come_queue : r ≡ true → OfState l (λ s. r ≡ has_come s (sender_of name) (count_of name) t)
     unfolding has_come
-    come_queue e = of_state _ λ s rest h. sym (or_left (any (by_name name) (taken (history_at s t))) (sym (in_queue s rest h) ∙ e))
+    come_queue e = of_state _ λ s rest h. e ∙ sym (or_left (any (by_name name) (taken (history_at s t))) (sym (in_queue s rest h) ∙ e))
 
     pub come_taken : r ≡ false → (x : Bool) → OfState l (λ s. x ≡ any (by_name name) (taken (history_at s t))) → OfState l (λ s. x ≡ has_come s (sender_of name) (count_of name) t)
     unfolding has_come
@@ -283,6 +253,6 @@ module _ (l : List ℕ) (t name : ℕ) where
 letter_at : (s : State) (p k i : ℕ) (e : Entry) (x : Letter) → entry_at (history_at s p) i ≡ some e → as_send e.kind ≡ some x → sent (history_at s p) k ≡ some x → SendAt p k i s
 letter_at s p k i e (letter target value) a b d = record { entry = e; target = target; value = value; stands = a; is_send = b; is_kth = d }
 
-pub found_at : (s : State) (p k i : ℕ) → SendFound (history_at s p) k (At i) → SendAt p k i s
+pub found_at : (s : State) (p k i : ℕ) → SendFound (history_at s p) k (Some i) → SendAt p k i s
 unfolding SendFound
 found_at s p k i x = letter_at s p k i x.0 x.1 x.2 x.3 x.4

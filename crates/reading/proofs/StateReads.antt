@@ -1,14 +1,14 @@
 -- What the code reads of a store's head and slots, said of the state that the store holds.
 use Prim.Native.Nat.{ℕ, suc, ◌+◌, ◌-◌, ◌≤◌, ◌<◌}
 use mathlib.Core.Path.{◌≡◌, sym, ◌∙◌, ap}
-use mathlib.Core.Bool.{false}
 use mathlib.Core.Option.{some}
 use mathlib.Core.List.{List, map}
 use native.Mathlib.Decide.{dec_lt}
 use native.Mathlib.Numerals.{add-one}
 use native.Mathlib.Omega.{arith}
-use lib.Dec.{eqb}
+use lib.Dec.{eqb, ltb}
 use lib.ListN.{length, take, drop, get_or, length-map}
+use Rattle.lists.proofs.Tests.{ltb_over}
 use Rattle.rules.specs.State.{as_rec, Entry, State, history_at, entry_at, in_pool}
 use Rattle.rules.specs.Depends.{queue_before}
 use Rattle.store.specs.Image.{IsImage}
@@ -74,8 +74,8 @@ module _ (l : List ℕ) where
   pub first_slot : OfState l (λ s. 0 ≤ s.sizes.entries)
   first_slot = of_state _ λ s rest h. omega arith
 
-  pub no_place : (p : ℕ) → get_or l 0 0 ≤ p → OfState l (λ s. false ≡ in_pool s p)
-  no_place p b = of_state _ λ s rest h. sym (h.sound.pool_ends p (omega (arith, places_word s rest l h.words)))
+  pub no_place : (p : ℕ) → get_or l 0 0 ≤ p → OfState l (λ s. ltb p (get_or l 0 0) ≡ in_pool s p)
+  no_place p b = of_state _ λ s rest h. ltb_over p (get_or l 0 0) b ∙ sym (h.sound.pool_ends p (omega (arith, places_word s rest l h.words)))
 
   pub lives_place : (p : ℕ) → OfState l (Lives p) → OfState l (IsPlace p)
   lives_place p f = of_state _ λ s rest h. in_places s h.sound p (holding _ f s rest h)

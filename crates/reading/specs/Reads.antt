@@ -1,12 +1,12 @@
 -- What is read of a store, said of the state that it holds.
-use Rattle.std.specs.Prelude.{ℕ, ◌<◌, ◌-◌, ◌≡◌, true, List, [], ◌++◌, length, drop}
-use Rattle.std.proofs.Math.Option.{Option, none, some}
+use Rattle.std.specs.Prelude.{Bool, ◌&&◌, eqb, ℕ, ◌<◌, ◌-◌, ◌≡◌, true, List, [], ◌++◌, length, drop, Option, None, Some}
+use Rattle.std.proofs.Math.Option.{Option as Maybe, none, some}
 use Rattle.rules.specs.State.{Letter, letter, as_send, Entry, Process, State, history_at, entry_at, in_pool}
 use Rattle.rules.specs.Flight.{sent}
 use Rattle.rules.specs.Sound.{Sound}
-use Rattle.store.specs.Layout.{image}
-use Rattle.reading.specs.declared.found.Found.{Found}
-use Rattle.reading.specs.declared.found.Found.TheVariants.{Nowhere, At}
+use Rattle.store.specs.Layout.{image, kind_number, number_in, kind_seq, kind_send, kind_rec, kind_spawn, kind_self, kind_check}
+use Rattle.kinds.specs.declared.Kind.{Kind}
+use Rattle.kinds.specs.declared.Kind.TheVariants.{Seq, Send, Rec, Spawn, Own, Check}
 
 -- the words begin with the image of this sound state
 pub record Holds (l : List ℕ) (s : State) (rest : List ℕ) : Type 0 where
@@ -18,7 +18,7 @@ unfoldable pub OfState : List ℕ → (State → Type 0) → Type 0
 OfState l P = (s : State) (rest : List ℕ) → Holds l s rest → P s
 
 -- the control at a place, which is empty where no process is
-unfoldable pub control_of : Option Process → List ℕ
+unfoldable pub control_of : Maybe Process → List ℕ
 control_of none = []
 control_of (some process) = process.control
 
@@ -60,11 +60,27 @@ pub record SendAt (p k i : ℕ) (s : State) : Type 0 where
   pub is_send : as_send entry.kind ≡ some (letter target value)
   pub is_kth : sent (history_at s p) k ≡ some (letter target value)
 
+-- the number that the layout has for a kind
+abbrev pub number_of : Kind → ℕ
+number_of Seq = kind_seq
+number_of Send = kind_send
+number_of Rec = kind_rec
+number_of Spawn = kind_spawn
+number_of Own = kind_self
+number_of Check = kind_check
+
+abbrev pub is_kind : Kind → Entry → Bool
+is_kind kind e = eqb (kind_number e.kind) (number_of kind)
+
+-- an entry is of a kind and has that number
+abbrev pub is_numbered : Kind → (number : ℕ) → Entry → Bool
+is_numbered kind number e = is_kind kind e && eqb (number_in e.kind) number
+
 -- the oldest i entries of a history
 unfoldable pub oldest : ℕ → List Entry → List Entry
 oldest i h = drop (length h - i) h
 
 -- where the k-th send of a history stands
-unfoldable pub SendFound : List Entry → ℕ → Found → Type 0
-SendFound h k Nowhere = sent h k ≡ none
-SendFound h k (At i) = (e : Entry) × (l : Letter) × (entry_at h i ≡ some e) × (as_send e.kind ≡ some l) × (sent h k ≡ some l)
+unfoldable pub SendFound : List Entry → ℕ → Option ℕ → Type 0
+SendFound h k None = sent h k ≡ none
+SendFound h k (Some i) = (e : Entry) × (l : Letter) × (entry_at h i ≡ some e) × (as_send e.kind ≡ some l) × (sent h k ≡ some l)

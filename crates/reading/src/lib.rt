@@ -2,7 +2,6 @@
 #![tactic(auto)]
 
 pub mod entries;
-pub mod found;
 pub mod mail;
 pub mod slots;
 pub mod state;

@@ -1,6 +1,6 @@
 // Messages: where their sends stand, where they went, whether they are in flight.
 ghost use Rattle.std.specs.Prelude.{◌≡◌, [], ◌+◌, ◌*◌, ◌-◌, ◌/◌, ◌%◌, ◌≤◌, length, take, drop};
-ghost use Rattle.lists.specs.Lists.{any, member, up_to};
+ghost use Rattle.lists.specs.Lists.{any, up_to};
 ghost use Rattle.rules.specs.State.{as_send, as_rec, history_at, is_named};
 ghost use Rattle.rules.specs.Flight.{count_letter, sends as sends_of, also_taken, taken, has_come, flies_to, awaited as awaited_of};
 ghost use Rattle.store.specs.Image.{IsImage};
@@ -8,13 +8,12 @@ ghost use Rattle.store.specs.Layout.{name_base};
 ghost use Rattle.reading.specs.Mail.{flies_by};
 ghost use Rattle.reading.specs.Reads.{OfState, IsPlace, IsEntry, OfEntry, IsSend, OfSend, oldest, SendFound};
 
-use crate::entries::{before, kind, number, queue_before};
-use crate::found::Found;
+use crate::entries::{before, count_of, kind, number, queue_before};
 use crate::state::{entry_count, places, queue};
+use kinds::Kind;
 use rows::words::NAME_BASE;
 use step::control::sent;
 use step::work::{Doing, about_to};
-use store::layout::{REC, SEND};
 
 // What `target` gives where no send is: never, since it is asked of sends alone.
 const NO_TARGET: u32 = 0;
@@ -62,10 +61,10 @@ fn send_at(store: &[u32], p: usize, i: usize) -> u32
     requires { IsImage store.now × OfState store.now (IsEntry p i) }
     ensures { OfState store.now (OfEntry p i (λ e. result ≡ count_letter (as_send e.kind) 0)) }
 {
-    if kind(store, p, i) == SEND {
-        return 1;
+    match kind(store, p, i) {
+        Kind::Send => 1,
+        _ => 0,
     }
-    0
 }
 
 // How many of the entries older than entry i of p are sends; of all entries, where i is how many there are.
@@ -73,46 +72,23 @@ pub fn sends_before(store: &[u32], p: usize, i: usize) -> u32
     requires { IsImage store.now × OfState store.now (IsPlace p) × OfState store.now (λ s. i ≤ length (history_at s p)) }
     ensures { OfState store.now (λ s. result ≡ sends_of (oldest i (history_at s p))) }
 {
-    let mut count = 0;
-    let mut j = 0;
-    while j < i {
-        count += send_at(store, p, j);
-        j += 1;
-    }
-    count
+    count_of(store, p, i, Kind::Send) as u32
 }
 
 // The entry of p that is its send of that count.
-pub fn find_send(store: &[u32], p: usize, count: u32) -> Found
+pub fn find_send(store: &[u32], p: usize, count: u32) -> Option<usize>
     requires { IsImage store.now × OfState store.now (IsPlace p) }
     ensures { OfState store.now (λ s. SendFound (history_at s p) count result) }
 {
-    let end = entry_count(store, p);
     let mut left = count;
-    let mut i = 0;
-    while i < end {
+    for i in 0..entry_count(store, p) {
         let here = send_at(store, p, i);
         if left < here {
-            return Found::At(i);
+            return Some(i);
         }
         left -= here;
-        i += 1;
     }
-    Found::Nowhere
-}
-
-// Whether a name stands among names.
-fn among(names: &[u32], name: u32) -> bool
-    ensures { result ≡ member name names.now }
-{
-    let mut i = 0;
-    while i < names.len() {
-        if names[i] == name {
-            return true;
-        }
-        i += 1;
-    }
-    false
+    None
 }
 
 // Whether entry i of t is a rec that took the message of that name.
@@ -120,11 +96,13 @@ fn took(store: &[u32], t: usize, i: usize, name: u32) -> bool
     requires { IsImage store.now × OfState store.now (IsEntry t i) }
     ensures { OfState store.now (OfEntry t i (λ e. result ≡ any (is_named (name / name_base) (name % name_base)) (also_taken (as_rec e.kind) []))) }
 {
-    if kind(store, t, i) == REC {
-        let at = number(store, t, i) as usize;
-        return queue_before(store, t, i)[at] == name;
+    match kind(store, t, i) {
+        Kind::Rec => {
+            let at = number(store, t, i) as usize;
+            queue_before(store, t, i)[at] == name
+        }
+        _ => false,
     }
-    false
 }
 
 // Whether a rec of t took the message of that name.
@@ -132,13 +110,10 @@ fn received(store: &[u32], t: usize, name: u32) -> bool
     requires { IsImage store.now × OfState store.now (IsPlace t) }
     ensures { OfState store.now (λ s. result ≡ any (is_named (name / name_base) (name % name_base)) (taken (history_at s t))) }
 {
-    let end = entry_count(store, t);
-    let mut i = 0;
-    while i < end {
+    for i in 0..entry_count(store, t) {
         if took(store, t, i, name) {
             return true;
         }
-        i += 1;
     }
     false
 }
@@ -148,10 +123,7 @@ pub fn has_come(store: &[u32], t: usize, name: u32) -> bool
     requires { IsImage store.now × OfState store.now (IsPlace t) }
     ensures { OfState store.now (λ s. result ≡ has_come s (name / name_base) (name % name_base) t) }
 {
-    if among(queue(store, t), name) {
-        return true;
-    }
-    received(store, t, name)
+    queue(store, t).contains(&name) || received(store, t, name)
 }
 
 // Whether entry i of s is a send whose message is in flight to q, where its name would be this one.
@@ -162,10 +134,7 @@ fn flies_to(store: &[u32], s: usize, i: usize, q: u32, name: u32) -> bool
     if send_at(store, s, i) == 0 {
         return false;
     }
-    if target(store, s, i) != q {
-        return false;
-    }
-    !has_come(store, q as usize, name)
+    target(store, s, i) == q && !has_come(store, q as usize, name)
 }
 
 // Whether a message of place s is in flight to q.
@@ -173,15 +142,12 @@ fn awaited_from(store: &[u32], s: usize, q: u32) -> bool
     requires { IsImage store.now × OfState store.now (IsPlace s) × OfState store.now (IsPlace q) }
     ensures { OfState store.now (λ st. result ≡ any (flies_to st q s) (up_to (sends_of (history_at st s)))) }
 {
-    let end = entry_count(store, s);
     let mut name = s as u32 * NAME_BASE;
-    let mut i = 0;
-    while i < end {
+    for i in 0..entry_count(store, s) {
         if flies_to(store, s, i, q, name) {
             return true;
         }
         name += send_at(store, s, i);
-        i += 1;
     }
     false
 }
@@ -191,13 +157,10 @@ pub fn awaited(store: &[u32], q: usize) -> bool
     requires { IsImage store.now × OfState store.now (IsPlace q) }
     ensures { OfState store.now (λ s. result ≡ awaited_of s q) }
 {
-    let end = places(store);
-    let mut s = 0;
-    while s < end {
+    for s in 0..places(store) {
         if awaited_from(store, s, q as u32) {
             return true;
         }
-        s += 1;
     }
     false
 }

@@ -4,21 +4,17 @@ ghost use Rattle.store.specs.Image.{IsImage};
 ghost use Rattle.store.specs.Layout.{slot_head, free_slot, slot_words, slots_at};
 ghost use Rattle.reading.specs.Reads.{OfState, IsPlace};
 
-use store::layout::{
-    HEAD_ENTRIES, HEAD_PLACES, HEAD_WORDS, SLOT_HEAD, SLOT_QUEUE, SLOT_WORDS, slot_size,
-};
-use store::slot::slot_start;
+use store::layout::{SLOT_HEAD, SLOT_QUEUE, SLOT_WORDS};
+use store::sizes::Sizes;
 
 // The words of slot i of place p.
 pub fn slot<'a>(store: &'a [u32], p: usize, i: usize) -> &'a [u32]
     requires { IsImage store.now × OfState store.now (IsPlace p) × OfState store.now (λ s. i ≤ s.sizes.entries) }
     ensures { OfState store.now (λ s. result.now ≡ slot_words s.sizes (get_or (slots_at s p) i free_slot)) }
 {
-    let places = store[HEAD_PLACES] as usize;
-    let entries = store[HEAD_ENTRIES] as usize;
-    let words = store[HEAD_WORDS] as usize;
-    let at = slot_start(places, entries, words, p, i);
-    &store[at..at + slot_size(places, entries, words)]
+    let sizes = Sizes::at_head(store);
+    let at = sizes.slot_start(p, i);
+    &store[at..at + sizes.slot]
 }
 
 // The control of a slot.

@@ -45,10 +45,7 @@ pub fn in_pool(store: &[u32], p: u32) -> bool
     requires { IsImage store.now }
     ensures { OfState store.now (λ s. result ≡ in_pool s p) }
 {
-    if store[HEAD_PLACES] <= p {
-        return false;
-    }
-    slot(store, p as usize, 0)[SLOT_KIND] == LIVE
+    p < store[HEAD_PLACES] && slot(store, p as usize, 0)[SLOT_KIND] == LIVE
 }
 
 // The control of the process at p; empty where none is.
@@ -73,12 +70,10 @@ pub fn entry_count(store: &[u32], p: usize) -> usize
     ensures { OfState store.now (λ s. result ≡ length (history_at s p)) }
 {
     let most = most_entries(store);
-    let mut i = 0;
-    while i < most {
+    for i in 0..most {
         if slot(store, p, i + 1)[SLOT_KIND] == FREE {
             return i;
         }
-        i += 1;
     }
     most
 }

@@ -14,8 +14,7 @@ use Rattle.rules.specs.Line.{Request}
 use Rattle.rules.specs.Replies.{answer_line, undone_line}
 use Rattle.text.specs.Written.{Wrote}
 use Rattle.text.proofs.WritingLaws.{wrote_fits}
-use Rattle.calls.specs.Numbers.{number_of, value_place}
-use Rattle.calls.specs.declared.answers.Answer.{Answer}
+use Rattle.calls.specs.Numbers.{Answer, number_of, value_place}
 use Rattle.calls.proofs.AnswerNumbers.{number_below}
 use Rattle.replies.specs.Replied.{undone_by, reply_text, reply_room}
 

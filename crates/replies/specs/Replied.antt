@@ -5,8 +5,7 @@ use Rattle.rules.specs.Answers.{done}
 use Rattle.rules.specs.Line.{Request, single, rollback_to, parse_line}
 use Rattle.rules.specs.Replies.{answer_line, undone_line}
 use Rattle.text.specs.Written.{Wrote}
-use Rattle.calls.specs.Numbers.{number_of, value_of, TextCall}
-use Rattle.calls.specs.declared.answers.Answer.{Answer}
+use Rattle.calls.specs.Numbers.{Answer, number_of, value_of, TextCall}
 
 unfoldable pub rolls_back : Option Request → Bool
 rolls_back none = false

@@ -8,6 +8,7 @@ use native.Mathlib.Omega.{arith}
 use native.Mathlib.Decide.{dec_lt}
 use lib.Dec.{eqb, ltb}
 use lib.ListN.{length, get_or, set}
+use Rattle.std.specs.Prelude.{Some, None, Ok, Err}
 use Rattle.lists.specs.Lists.{but_last}
 use Rattle.lists.proofs.Tests.{none_not_some, some_injective, eqb-true, eqb-false}
 use Rattle.rules.specs.Answers.{held}
@@ -25,12 +26,11 @@ use Rattle.demands.proofs.SearchLoop.{Writing, write_start, write_take, write_on
 use Rattle.store.specs.Layout.{image}
 use Rattle.store.specs.Image.{IsImage}
 use Rattle.store.proofs.Laws.{image_laws}
-use Rattle.calls.specs.declared.answers.Answer.TheVariants.{Done, Held}
+use Rattle.calls.specs.declared.answers.Refusal.TheVariants.{Held}
 use Rattle.reading.specs.Reads.{Holds, OfState}
-use Rattle.cuts.specs.declared.found.Found.TheVariants.{Nowhere, At}
-use Rattle.cuts.specs.declared.search.Descent.TheVariants as Descent
 use Rattle.writing.specs.Writes.{Leads, Undoes, Unposts, CanUndo, CanTake}
 use Rattle.cuts.specs.Bounds.{line_count}
+use Rattle.cuts.specs.declared.link.Link.{Link}
 use Rattle.cuts.specs.Links.{line_number, cut_in}
 use Rattle.cuts.specs.Going.{Free, FindsFree, Ready, Foretells, foretells_done, foretells_held, Seeks}
 use Rattle.rollback.specs.Undone.{Reaches, Tells, tells_done, tells_held, CanUndoLine, UndoesLine, OfWords, Leaves, TakesBack}
@@ -106,9 +106,9 @@ pub record Standing {s : State} (sound : Sound s) (x : Series) (i : ℕ) (happen
   pub words : store ≡ image state ++ rest
   pub levels : level state ≡ cut_in lv
 
-unfoldable pub Undoing : (before links : List ℕ) (many : ℕ) (cut levels store lv : List ℕ) → Type 0
-Undoing before links many cut levels store lv =
-    (s : State) (rest : List ℕ) (holds : Holds before s rest) (r : Ready s links many cut levels) → Standing holds.sound r.line r.index r.happens rest store lv
+unfoldable pub Undoing : (before : List ℕ) (links : List Link) (cut levels store lv : List ℕ) → Type 0
+Undoing before links cut levels store lv =
+    (s : State) (rest : List ℕ) (holds : Holds before s rest) (r : Ready s links cut levels) → Standing holds.sound r.line r.index r.happens rest store lv
 
 -- the undo of a line lowers its level by one
 level_down : {s m : State} (y : Series) {c : ℕ} → Sound s → run_state (undo_of y) s ≡ some m → level s y ≡ suc c → level m ≡ cut_to y c (level s)
@@ -120,16 +120,16 @@ level_down {s} {m} y {c} sound e top =
       | no n ↦ d.off z n ∙ sym (cut_off y z c (level s) n)
     ]
 
-module _ (before links : List ℕ) (many : ℕ) (cut levels : List ℕ) where
-  pub undoing_start : Undoing before links many cut levels before levels
+module _ (before : List ℕ) (links : List Link) (cut levels : List ℕ) where
+  pub undoing_start : Undoing before links cut levels before levels
   unfolding Undoing
   undoing_start s rest holds r = record { state = s; done = 0; writing = write_start holds.sound r.line r.index r.happens; words = holds.words; levels = sym (levels_same holds.sound r) }
 
-  module _ (store lv : List ℕ) (undoing : Undoing before links many cut levels store lv) (is_image : IsImage before) (ready : OfState before (λ s. Ready s links many cut levels)) where
+  module _ (store lv : List ℕ) (undoing : Undoing before links cut levels store lv) (is_image : IsImage before) (ready : OfState before (λ s. Ready s links cut levels)) where
     holds_one : Holds before is_image.state is_image.rest
     holds_one = record { sound = is_image.sound; words = is_image.words }
 
-    ready_one : Ready is_image.state links many cut levels
+    ready_one : Ready is_image.state links cut levels
     unfolding OfState
     ready_one = ready is_image.state is_image.rest holds_one
 
@@ -140,8 +140,8 @@ module _ (before links : List ℕ) (many : ℕ) (cut levels : List ℕ) where
     pub undoing_image : IsImage store
     undoing_image = record { state = standing_one.state; rest = is_image.rest; sound = sound_back holds_one.sound standing_one.writing.run; words = standing_one.words }
 
-    module _ (x : ℕ) (f : Free links many cut lv x) where
-      accepted : {s : State} (sound : Sound s) (r : Ready s links many cut levels) {rest : List ℕ} (st : Standing sound r.line r.index r.happens rest store lv) (y : Series) → line_number y ≡ x
+    module _ (x : ℕ) (f : Free links cut lv x) where
+      accepted : {s : State} (sound : Sound s) (r : Ready s links cut levels) {rest : List ℕ} (st : Standing sound r.line r.index r.happens rest store lv) (y : Series) → line_number y ≡ x
           → (m : State) × (run_state (undo_of y) st.state ≡ some m)
       accepted {s} sound r st y e =
           let back-run = st.writing.run in
@@ -155,7 +155,7 @@ module _ (before links : List ℕ) (many : ℕ) (cut levels : List ℕ) where
           let one = image_laws.one_state standing_one.state s' is_image.rest rest' (sound_back holds_one.sound standing_one.writing.run) holds'.sound (sym standing_one.words ∙ holds'.words) in
           subst (CanUndoLine x) one.0 (record { line = y; numbered = e; after = m; accepted = a })
 
-      pub undoing_on : (exit : List ℕ) → length lv ≡ line_count → Leads store exit (UndoesLine x) → Undoing before links many cut levels exit (set lv x (get_or lv x 0 - 1))
+      pub undoing_on : (exit : List ℕ) → length lv ≡ line_count → Leads store exit (UndoesLine x) → Undoing before links cut levels exit (set lv x (get_or lv x 0 - 1))
       unfolding Undoing Leads UndoesLine
       undoing_on exit long leads s rest holds r =
           let st = undoing s rest holds r in
@@ -172,16 +172,14 @@ module _ (before links : List ℕ) (many : ℕ) (cut levels : List ℕ) where
             levels = level_down y st-sound a (at y ∙ free_top f y e) ∙ ap (cut_to y (get_or lv x 0 - 1)) st.levels ∙ sym (cut_set lv y (get_or lv x 0 - 1) (sym e) (omega (arith, f.line, long)));
           }
 
-    pub undoing_can : (x : ℕ) → FindsFree links many cut lv (At x) → IsImage store × OfState store (CanUndoLine x)
-    unfolding FindsFree
+    pub undoing_can : (x : ℕ) → FindsFree links cut lv (Some x) → IsImage store × OfState store (CanUndoLine x)
     undoing_can x f = (undoing_image, can_undo x f)
 
-    pub undoing_next : (x : ℕ) (exit : List ℕ) → FindsFree links many cut lv (At x) → length lv ≡ line_count → Leads store exit (UndoesLine x) → Undoing before links many cut levels exit (set lv x (get_or lv x 0 - 1))
-    unfolding FindsFree
+    pub undoing_next : (x : ℕ) (exit : List ℕ) → FindsFree links cut lv (Some x) → length lv ≡ line_count → Leads store exit (UndoesLine x) → Undoing before links cut levels exit (set lv x (get_or lv x 0 - 1))
     undoing_next x exit f long leads = undoing_on x f exit long leads
 
     -- no line above the cut can be undone: the cut is reached
-    pub undoing_done : length lv ≡ line_count → FindsFree links many cut lv Nowhere → OfState before (λ s. Reaches s (cut_in cut)) → OfWords before (λ s rest. Leaves s (cut_in cut) rest store)
+    pub undoing_done : length lv ≡ line_count → FindsFree links cut lv None → OfState before (λ s. Reaches s (cut_in cut)) → OfWords before (λ s rest. Leaves s (cut_in cut) rest store)
     unfolding OfWords OfState Undoing rolled_state
     undoing_done long nowhere reaches s rest holds =
         let r = ready s rest holds in
@@ -200,33 +198,33 @@ module _ (before links : List ℕ) (many : ℕ) (cut levels : List ℕ) where
         let same : st.state ≡ known.end = (write_done sound r.line r.index r.happens known_at st.writing there).0 in
         record { leaves = st.words ∙ ap (λ z. image z ++ rest) (same ∙ sym (ap (rolled_state s) known.known)) }
 
-pub ready_long : (store links : List ℕ) (many : ℕ) (cut levels : List ℕ) → IsImage store → OfState store (λ s. Ready s links many cut levels) → length levels ≡ line_count
+pub ready_long : (store : List ℕ) (links : List Link) (cut levels : List ℕ) → IsImage store → OfState store (λ s. Ready s links cut levels) → length levels ≡ line_count
 unfolding OfState
-ready_long store links many cut levels is_image ready = (ready is_image.state is_image.rest (record { sound = is_image.sound; words = is_image.words })).levels_are.long
+ready_long store links cut levels is_image ready = (ready is_image.state is_image.rest (record { sound = is_image.sound; words = is_image.words })).levels_are.long
 
 -- ---- the answer
-module _ (before links : List ℕ) (many : ℕ) (cut levels : List ℕ) (ready : OfState before (λ s. Ready s links many cut levels)) where
-  reaches_of : {back : RolledBack} {n : ℕ} → Foretells back (Descent.Reaches n) → (end : State) × (back ≡ rolled n end)
+module _ (before : List ℕ) (links : List Link) (cut levels : List ℕ) (ready : OfState before (λ s. Ready s links cut levels)) where
+  reaches_of : {back : RolledBack} {n : ℕ} → Foretells back (Some n) → (end : State) × (back ≡ rolled n end)
   reaches_of (foretells_done n end) = (end, refl)
 
-  held_of : {back : RolledBack} → Foretells back Descent.Stops → Tells back Held × ((s : State) → rolled_state s back ≡ s)
+  held_of : {back : RolledBack} → Foretells back None → Tells back (Err Held) × ((s : State) → rolled_state s back ≡ s)
   unfolding rolled_state
   held_of foretells_held = (tells_held, λ s. refl)
 
-  done_of : {back : RolledBack} {n : ℕ} → Foretells back (Descent.Reaches n) → Tells back (Done n)
+  done_of : {back : RolledBack} {n : ℕ} → Foretells back (Some n) → Tells back (Ok n)
   done_of (foretells_done n end) = tells_done n end
 
-  pub seek_reaches : (n : ℕ) → Seeks links many cut levels (Descent.Reaches n) → OfState before (λ s. Reaches s (cut_in cut))
+  pub seek_reaches : (n : ℕ) → Seeks links cut levels (Some n) → OfState before (λ s. Reaches s (cut_in cut))
   unfolding Seeks OfState
   seek_reaches n seeks s rest holds = let (end, e) = reaches_of (seeks s holds.sound (ready s rest holds)) in record { count = n; end = end; known = e }
 
-  pub seek_holds : Seeks links many cut levels Descent.Stops → OfWords before (λ s rest. TakesBack s rest before (undo_to s (cut_in cut)) Held)
+  pub seek_holds : Seeks links cut levels None → OfWords before (λ s rest. TakesBack s rest before (undo_to s (cut_in cut)) (Err Held))
   unfolding Seeks OfState OfWords
   seek_holds seeks s rest holds =
       let (tells, same) = held_of (seeks s holds.sound (ready s rest holds)) in
       record { tells = tells; leaves = holds.words ∙ ap (λ z. image z ++ rest) (sym (same s)) }
 
-  pub seek_leaves : (exit : List ℕ) (n : ℕ) → Seeks links many cut levels (Descent.Reaches n) → OfWords before (λ s rest. Leaves s (cut_in cut) rest exit)
-      → OfWords before (λ s rest. TakesBack s rest exit (undo_to s (cut_in cut)) (Done n))
+  pub seek_leaves : (exit : List ℕ) (n : ℕ) → Seeks links cut levels (Some n) → OfWords before (λ s rest. Leaves s (cut_in cut) rest exit)
+      → OfWords before (λ s rest. TakesBack s rest exit (undo_to s (cut_in cut)) (Ok n))
   unfolding Seeks OfState OfWords
   seek_leaves exit n seeks leaves s rest holds = record { tells = done_of (seeks s holds.sound (ready s rest holds)); leaves = (leaves s rest holds).leaves }

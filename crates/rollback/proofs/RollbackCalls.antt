@@ -1,13 +1,16 @@
 -- Rollback as a call: the checkpoint, the event's numbers, and the four answers.
+use Rattle.std.proofs.Common.{None, Some}
 use Prim.Native.Nat.{ℕ, suc, ◌*◌, ◌≤◌, ◌<◌}
 use mathlib.Core.Path.{◌≡◌, refl, sym, ◌∙◌, ap, subst, fun_ext}
-use mathlib.Core.Bool.{Bool, true, false}
+use mathlib.Core.Bool.{Bool, true, false, ◌&&◌}
 use mathlib.Core.Option.{none, some}
 use mathlib.Core.List.{List, [], ◌∷◌, ◌++◌}
 use native.Mathlib.Omega.{arith}
-use native.Mathlib.Decide.{dec_lt}
+use native.Mathlib.Decide.{dec_lt, ℕ_discrete}
 use lib.Dec.{eqb}
-use lib.ListN.{length, set}
+use lib.ListN.{length, get_or, take, set}
+use Rattle.std.specs.Prelude.{Err}
+use Rattle.lists.proofs.Tests.{eqb_of, eqb_apart}
 use Rattle.rules.specs.Answers.{done, no_process, held, no_checkpoint}
 use Rattle.rules.specs.State.{Kind, seq, send, rec, spawn, self, check, as_spawn, as_check, Entry, State, history_at, entry_at, in_pool}
 use Rattle.rules.specs.Sound.{Sound}
@@ -27,15 +30,18 @@ use Rattle.store.specs.Layout.{kind_number, number_in, kind_check, image}
 use Rattle.store.specs.Image.{IsImage}
 use Rattle.store.proofs.SoundStates.{sizes_in_lem, in_places}
 use Rattle.calls.specs.Calls.{count_in, outcome, stored}
-use Rattle.calls.specs.Numbers.{number_of, value_of, RollbackCall}
+use Rattle.calls.specs.Numbers.{Answer, number_of, value_of, RollbackCall}
 use Rattle.calls.specs.Answering.{Answers}
 use Rattle.calls.proofs.Answering.{request_refused, request_answered}
-use Rattle.calls.specs.declared.answers.Answer.{Answer}
-use Rattle.calls.specs.declared.answers.Answer.TheVariants.{NoProcess, NoCheckpoint, NotAState}
-use Rattle.reading.specs.Reads.{Holds, OfState, IsPlace, IsEntry, OfEntry}
-use Rattle.reading.specs.declared.found.Found.TheVariants.{Nowhere, At}
+use Rattle.calls.specs.declared.answers.Refusal.TheVariants.{NoProcess, NoCheckpoint, NotAState}
+use Rattle.kinds.specs.declared.Kind.TheVariants.{Check}
+use Rattle.reading.specs.Reads.{Holds, OfState, IsPlace, IsEntry, OfEntry, is_numbered}
 use Rattle.cuts.specs.Bounds.{most_places, line_count, most_events}
-use Rattle.cuts.specs.Links.{line_number, cut_in, sum_of, Levels, Ties, of_rec, of_since, of_send, of_child, of_mail, Aims, of_aim, Says, Tied, Links, LinkFits, Room, OnEvents}
+use Rattle.std.proofs.lemmas.List.{length-take-le, get_or-take}
+use Rattle.links.proofs.LinkAdds.{says_kept, link_kept}
+use Rattle.cuts.specs.declared.events.Event.{Event}
+use Rattle.cuts.specs.declared.link.Link.{Link}
+use Rattle.cuts.specs.Links.{no_link, line_number, cut_in, sum_of, Levels, Ties, of_rec, of_since, of_send, of_child, of_mail, Aims, of_aim, Says, Tied, Links, LinkFits, Room, OnEvents}
 use Rattle.cuts.specs.Going.{Settles, Ready}
 use Rattle.rollback.specs.Undone.{Tells, tells_done, tells_held, OfWords, TakesBack, Happens, EventBack, FindsCheck}
 use Rattle.cuts.proofs.Lines.{at_line, same_line, cut_set}
@@ -68,19 +74,18 @@ module _ {s : State} (sound : Sound s) where
   aims_low : {x y : Series} {a b : ℕ} → Aims s x a y b → (line_number x < line_count) × (line_number y < line_count)
   aims_low (of_aim st' is' st is) = (entry_low st', entry_low st)
 
-  link_fits : {links : List ℕ} {k many : ℕ} {Of : Series → ℕ → Series → ℕ → Type 0} → ((x y : Series) (a b : ℕ) → Of x a y b → (line_number x < line_count) × (line_number y < line_count)) → 4 * many ≤ length links → k < many
+  link_fits : {links : List Link} {k : ℕ} {Of : Series → ℕ → Series → ℕ → Type 0} → ((x y : Series) (a b : ℕ) → Of x a y b → (line_number x < line_count) × (line_number y < line_count)) → k < length links
       → Says Of links k → LinkFits links k
-  link_fits f long h says =
+  link_fits f h says =
       let (x, y) = f says.from says.on says.first says.second says.holds in
-      record { long = omega (arith, long, h); from_line_lem = omega (arith, says.is.from_line_lem, x); on_line_lem = omega (arith, says.is.on_line_lem, y) }
+      record { low = h; from_line_lem = omega (arith, says.is.from_line_lem, x); on_line_lem = omega (arith, says.is.on_line_lem, y) }
 
-  pub links_room : {links : List ℕ} {few many : ℕ} → Links s links few many → Room links many
+  pub links_room : {links : List Link} {few : ℕ} → Links s links few → Room links
   links_room {few = few} linked = record {
-    long = linked.long;
     most = linked.most;
     each = λ k h. elim (dec_lt k few) [
-      | yes g ↦ link_fits (λ x y a b t. ties_low t) linked.long h (linked.tied.each k g)
-      | no g ↦ link_fits (λ x y a b t. aims_low t) linked.long h (linked.each k (omega (arith, g)) h)
+      | yes g ↦ link_fits (λ x y a b t. ties_low t) h (linked.tied.each k g)
+      | no g ↦ link_fits (λ x y a b t. aims_low t) h (linked.each k (omega (arith, g)) h)
     ];
   }
 
@@ -92,30 +97,61 @@ module _ {s : State} (sound : Sound s) where
   ties_on (of_child st is) = stands_low st
   ties_on (of_mail st is) = stands_low st
 
-  pub tied_on : {links levels : List ℕ} {few : ℕ} → Tied s links few → Levels s levels → OnEvents links few levels
+  pub tied_on : {links : List Link} {levels : List ℕ} → Tied s links (length links) → Levels s levels → OnEvents links levels
   tied_on {levels = levels} tied n = record {
     each = λ k h. (let says = tied.each k h in omega (arith, ties_on says.holds, says.is.on_index_lem, at_line levels says.on says.is.on_line_lem, n.are says.on));
   }
 
-pub room_fewer : {links : List ℕ} {few many : ℕ} → few ≤ many → Room links many → Room links few
-room_fewer h room = record { long = omega (arith, h, room.long); most = omega (arith, h, room.most); each = λ k g. room.each k (omega (arith, h, g)) }
+-- ---- the first few links
+module _ (links : List Link) (few : ℕ) (fewer : few ≤ length links) where
+  abbrev pub first : List Link
+  first = take few links
+
+  pub first_long : length first ≡ few
+  first_long = length-take-le few links fewer
+
+  first_at : (k : ℕ) → k < few → get_or links k no_link ≡ get_or first k no_link
+  first_at k h = sym (get_or-take few links k no_link h)
+
+  pub first_tied : {s : State} → Tied s links few → Tied s first (length first)
+  first_tied tied = record {
+    each = λ k h. let low : k < few = omega (arith, h, first_long) in says_kept links first few (λ j g. sym (first_at j g)) low (tied.each k low);
+    all = λ x a y b t. let z = tied.all x a y b t in record { place = z.place; below = omega (arith, z.below, first_long); is = link_kept links first few (λ j g. sym (first_at j g)) z.below z.is };
+  }
+
+  pub first_room : Room links → Room first
+  first_room room = record {
+    most = omega (arith, room.most, first_long, fewer);
+    each = λ k h.
+        let low : k < few = omega (arith, h, first_long) in
+        let fits = room.each k (omega (arith, low, fewer)) in
+        let line = ap (λ z. z.event.line) (first_at k low) in
+        let on = ap (λ z. z.on.line) (first_at k low) in
+        record { low = h; from_line_lem = omega (arith, fits.from_line_lem, line); on_line_lem = omega (arith, fits.on_line_lem, on) };
+  }
 
 -- ---- with the numbers of the state
-module _ (store links : List ℕ) (few many : ℕ) (levels : List ℕ) (x i : ℕ) (is_image : IsImage store) (linked : OfState store (λ s. Links s links few many)) (level-numbers : OfState store (λ s. Levels s levels)) (happens : OfState store (Happens x i)) where
+module _ (store : List ℕ) (links : List Link) (few : ℕ) (levels : List ℕ) (x i : ℕ) (is_image : IsImage store) (linked : OfState store (λ s. Links s links few)) (level-numbers : OfState store (λ s. Levels s levels)) (happens : OfState store (Happens x i)) where
   abbrev one : Holds store is_image.state is_image.rest
   one = record { sound = is_image.sound; words = is_image.words }
 
-  pub event_room : Room links many
+  pub event_fewer : few ≤ length links
+  unfolding OfState
+  event_fewer = (linked is_image.state is_image.rest one).fewer
+
+  abbrev ties : List Link
+  ties = first links few event_fewer
+
+  pub event_room : Room links
   unfolding OfState
   event_room = links_room is_image.sound (linked is_image.state is_image.rest one)
 
-  pub event_few : Room links few
-  unfolding OfState
-  event_few = room_fewer (linked is_image.state is_image.rest one).fewer event_room
+  pub event_few : Room ties
+  event_few = first_room links few event_fewer event_room
 
-  pub event_on : OnEvents links few levels
+  pub event_on : OnEvents ties levels
   unfolding OfState
-  event_on = tied_on is_image.sound (linked is_image.state is_image.rest one).tied (level-numbers is_image.state is_image.rest one)
+  event_on = tied_on is_image.sound (first_tied links few event_fewer (linked is_image.state is_image.rest one).tied) (level-numbers is_image.state is_image.rest one)
 
   pub event_long : length levels ≡ line_count
   unfolding OfState
@@ -132,7 +168,7 @@ module _ (store links : List ℕ) (few many : ℕ) (levels : List ℕ) (x i : �
       let l = event_low is_image.sound h.line (in_level is_image.state h.line h.happens) in
       omega (arith, l, h.numbered)
 
-  pub event_ready : (cut : List ℕ) → Settles links few (set levels x i) cut → OfState store (λ s. Ready s links many cut levels)
+  pub event_ready : (cut : List ℕ) → Settles ties (set levels x i) cut → OfState store (λ s. Ready s links cut levels)
   unfolding OfState Settles
   event_ready cut settles s rest holds =
       let l = linked s rest holds in
@@ -145,10 +181,10 @@ module _ (store links : List ℕ) (few many : ℕ) (levels : List ℕ) (x i : �
         line = h.line;
         index = i;
         happens = h.happens;
-        cut_is = settles s h.line i holds.sound l.tied h.happens (cut_set levels h.line i (sym h.numbered) (omega (arith, event_line, event_long)) ∙ ap (cut_to h.line i) (fun_ext n.are));
+        cut_is = settles s h.line i holds.sound (first_tied links few event_fewer l.tied) h.happens (cut_set levels h.line i (sym h.numbered) (omega (arith, event_line, event_long)) ∙ ap (cut_to h.line i) (fun_ext n.are));
       }
 
-  pub event_back_lem : (cut exit : List ℕ) (r : Answer) → Settles links few (set levels x i) cut → OfWords store (λ s rest. TakesBack s rest exit (undo_to s (cut_in cut)) r) → OfWords store (EventBack x i exit r)
+  pub event_back_lem : (cut exit : List ℕ) (r : Answer) → Settles ties (set levels x i) cut → OfWords store (λ s rest. TakesBack s rest exit (undo_to s (cut_in cut)) r) → OfWords store (EventBack x i exit r)
   unfolding OfState OfWords Settles EventBack
   event_back_lem cut exit r settles takes s rest holds y e =
       let l = linked s rest holds in
@@ -156,7 +192,7 @@ module _ (store links : List ℕ) (few many : ℕ) (levels : List ℕ) (x i : �
       let h = happens s rest holds in
       let same : h.line ≡ y = same_line h.line y (h.numbered ∙ sym e) in
       let is : cut_in cut ≡ cut_before s (event h.line i) =
-      settles s h.line i holds.sound l.tied h.happens (cut_set levels h.line i (sym h.numbered) (omega (arith, event_line, event_long)) ∙ ap (cut_to h.line i) (fun_ext n.are)) in
+      settles s h.line i holds.sound (first_tied links few event_fewer l.tied) h.happens (cut_set levels h.line i (sym h.numbered) (omega (arith, event_line, event_long)) ∙ ap (cut_to h.line i) (fun_ext n.are)) in
       subst (λ z. TakesBack s rest exit (undo_to s (cut_before s (event z i))) r) same (subst (λ k. TakesBack s rest exit (undo_to s k) r) is (takes s rest holds))
 
 -- ---- the checkpoint
@@ -178,15 +214,13 @@ check_not (spawn q) e = refl
 check_not self e = refl
 check_not (check n) e = absurd (e refl)
 
-module _ (store : List ℕ) (p i t : ℕ) (kind : ℕ) (read : OfState store (OfEntry p i (λ e. kind ≡ kind_number e.kind))) where
-  pub is_check_no : ¬ (kind ≡ kind_check) → OfState store (OfEntry p i (λ e. false ≡ is_check t (as_check e.kind)))
-  unfolding OfState OfEntry is_check
-  is_check_no n s rest holds e stands = sym (ap (is_check t) (check_not e.kind (λ z. n (read s rest holds e stands ∙ z))))
-
-  pub is_check_same : (number : ℕ) → kind ≡ kind_check → OfState store (OfEntry p i (λ e. number ≡ number_in e.kind)) → OfState store (OfEntry p i (λ e. eqb number t ≡ is_check t (as_check e.kind)))
-  unfolding OfState OfEntry is_check
-  is_check_same number k numbered s rest holds e stands =
-      ap (λ n. eqb n t) (numbered s rest holds e stands) ∙ sym (ap (is_check t) (check_of e.kind (sym (read s rest holds e stands) ∙ k)))
+-- whether an entry is a check of a number, as the code asks
+numbered_check : (t : ℕ) (e : Entry) → is_numbered Check t e ≡ is_check t (as_check e.kind)
+unfolding is_check
+numbered_check t e = elim (ℕ_discrete (kind_number e.kind) kind_check) [
+  | no n ↦ ap (λ (b : Bool). b && eqb (number_in e.kind) t) (eqb_apart _ _ n) ∙ sym (ap (is_check t) (check_not e.kind n))
+  | yes y ↦ ap (λ (b : Bool). b && eqb (number_in e.kind) t) (eqb_of _ _ y) ∙ sym (ap (is_check t) (check_of e.kind y))
+]
 
 newest_nil : (t : ℕ) → newest_check t [] ≡ none
 unfolding newest_check
@@ -218,20 +252,20 @@ module _ (store : List ℕ) (p t : ℕ) where
     unfolding OfState
     unfound_entry s rest holds = let (e, g, st, c, w) = cons_of (unfound s rest holds) in omega (arith, suffix_length st, c)
 
-    module _ (r : Bool) (read : OfState store (OfEntry p i (λ e. r ≡ is_check t (as_check e.kind)))) where
-      pub unfound_here : r ≡ true → OfState store (FindsCheck p t (At i))
+    module _ (r : Bool) (read : OfState store (OfEntry p i (λ e. r ≡ is_numbered Check t e))) where
+      pub unfound_here : r ≡ true → OfState store (FindsCheck p t (Some i))
       unfolding OfState OfEntry FindsCheck
       unfound_here yes' s rest holds =
           let (e, g, st, c, w) = cons_of (unfound s rest holds) in
-          w ∙ newest_true t e g (sym (read s rest holds e (subst (λ z. entry_at (history_at s p) z ≡ some e) c (suffix_entry st))) ∙ yes') ∙ ap some c
+          w ∙ newest_true t e g (sym (read s rest holds e (subst (λ z. entry_at (history_at s p) z ≡ some e) c (suffix_entry st)) ∙ numbered_check t e) ∙ yes') ∙ ap some c
 
       pub unfound_on : r ≡ false → OfState store (Unfound p t i)
       unfolding OfState OfEntry
       unfound_on no' s rest holds =
           let (e, g, st, c, w) = cons_of (unfound s rest holds) in
-          record { older = g; stands = suffix_tail st; count = c; same = w ∙ newest_false t e g (sym (read s rest holds e (subst (λ z. entry_at (history_at s p) z ≡ some e) c (suffix_entry st))) ∙ no') }
+          record { older = g; stands = suffix_tail st; count = c; same = w ∙ newest_false t e g (sym (read s rest holds e (subst (λ z. entry_at (history_at s p) z ≡ some e) c (suffix_entry st)) ∙ numbered_check t e) ∙ no') }
 
-  pub unfound_nowhere : (n : ℕ) → n ≤ 0 → OfState store (Unfound p t n) → OfState store (FindsCheck p t Nowhere)
+  pub unfound_nowhere : (n : ℕ) → n ≤ 0 → OfState store (Unfound p t n) → OfState store (FindsCheck p t None)
   unfolding OfState FindsCheck
   unfound_nowhere n h unfound s rest holds = go (unfound s rest holds).older (unfound s rest holds).count (unfound s rest holds).same
     where
@@ -245,7 +279,7 @@ module _ (p t : ℕ) (entry : List ℕ) where
   unfolding RollbackCall
   call_of exit r is_image f = request_answered (rollback_to p t) entry exit r is_image f
 
-  pub call_elsewhere : ¬ IsImage entry → RollbackCall p t entry entry NotAState
+  pub call_elsewhere : ¬ IsImage entry → RollbackCall p t entry entry (Err NotAState)
   unfolding RollbackCall
   call_elsewhere n = request_refused (rollback_to p t) entry n
 
@@ -255,25 +289,25 @@ module _ (p t : ℕ) (entry : List ℕ) where
   refused_as r number e v s rest holds is =
       (λ i. outcome (e i) (v i) (holds.words i)) ∙ sym (ap (λ b. stored (of_rollback s b) rest) is)
 
-  pub call_away : {r : Bool} → IsImage entry → OfState entry (λ s. r ≡ in_pool s p) → r ≡ false → RollbackCall p t entry entry NoProcess
+  pub call_away : {r : Bool} → IsImage entry → OfState entry (λ s. r ≡ in_pool s p) → r ≡ false → RollbackCall p t entry entry (Err NoProcess)
   unfolding OfState Answers perform number_of value_of
-  call_away is_image pool e = call_of entry NoProcess is_image λ s rest holds. refused_as NoProcess no_process refl refl s rest holds (rollback_away p t s (sym (pool s rest holds) ∙ e))
+  call_away is_image pool e = call_of entry (Err NoProcess) is_image λ s rest holds. refused_as (Err NoProcess) no_process refl refl s rest holds (rollback_away p t s (sym (pool s rest holds) ∙ e))
 
-  pub call_without : {r : Bool} → IsImage entry → OfState entry (λ s. r ≡ in_pool s p) → r ≡ true → OfState entry (FindsCheck p t Nowhere) → RollbackCall p t entry entry NoCheckpoint
+  pub call_without : {r : Bool} → IsImage entry → OfState entry (λ s. r ≡ in_pool s p) → r ≡ true → OfState entry (FindsCheck p t None) → RollbackCall p t entry entry (Err NoCheckpoint)
   unfolding OfState FindsCheck Answers perform number_of value_of
   call_without is_image pool e found =
-      call_of entry NoCheckpoint is_image λ s rest holds. refused_as NoCheckpoint no_checkpoint refl refl s rest holds (rollback_without p t s (sym (pool s rest holds) ∙ e) (found s rest holds))
+      call_of entry (Err NoCheckpoint) is_image λ s rest holds. refused_as (Err NoCheckpoint) no_checkpoint refl refl s rest holds (rollback_without p t s (sym (pool s rest holds) ∙ e) (found s rest holds))
 
   told : (exit : List ℕ) (r : Answer) (s : State) (rest : List ℕ) (back : RolledBack) → Tells back r → exit ≡ image (rolled_state s back) ++ rest → outcome (number_of r) (value_of r) exit ≡ stored (of_rollback s back) rest
   unfolding stored of_rollback count_in number_of value_of rolled_state
   told exit r s rest back (tells_done n end) e = λ i. outcome done n (e i)
   told exit r s rest back tells_held e = λ i. outcome held 0 (e i)
 
-  pub call_back : (i x : ℕ) (exit : List ℕ) (r : Answer) {live : Bool} → x ≡ 2 * p → IsImage entry → OfState entry (λ s. live ≡ in_pool s p) → live ≡ true → OfState entry (FindsCheck p t (At i)) → OfWords entry (EventBack x i exit r)
+  pub call_back : (i : ℕ) (back : Event) (exit : List ℕ) (r : Answer) {live : Bool} → back ≡ record { line = 2 * p; index = i } → IsImage entry → OfState entry (λ s. live ≡ in_pool s p) → live ≡ true → OfState entry (FindsCheck p t (Some i)) → OfWords entry (EventBack back.line back.index exit r)
       → RollbackCall p t entry exit r
   unfolding OfState FindsCheck OfWords EventBack Answers perform
-  call_back i x exit r at is_image pool e found backs = call_of exit r is_image λ s rest holds.
-      let b = backs s rest holds (entries_of p) (sym at) in
+  call_back i back exit r at is_image pool e found backs = call_of exit r is_image λ s rest holds.
+      let b = subst (λ (z : Event). OfWords entry (EventBack z.line z.index exit r)) at backs s rest holds (entries_of p) refl in
       let is = rollback_at p t s (sym (pool s rest holds) ∙ e) (found s rest holds) in
       told exit r s rest (undo_to s (cut_before s (event (entries_of p) i))) b.tells b.leaves ∙ sym (ap (λ b. stored (of_rollback s b) rest) is)
 
@@ -282,6 +316,7 @@ module _ (p t : ℕ) (entry : List ℕ) where
   unfolding OfState
   call_place pool e s rest holds = in_places s holds.sound p (sym (pool s rest holds) ∙ e)
 
-  pub call_happens : (i x : ℕ) → x ≡ 2 * p → OfState entry (FindsCheck p t (At i)) → OfState entry (Happens x i)
+  pub call_happens : (i : ℕ) (back : Event) → back ≡ record { line = 2 * p; index = i } → OfState entry (FindsCheck p t (Some i)) → OfState entry (Happens back.line back.index)
   unfolding OfState FindsCheck level
-  call_happens i x at found s rest holds = record { line = entries_of p; numbered = sym at; happens = level_in s (entries_of p) (newest_low t (history_at s p) (found s rest holds)) }
+  call_happens i back at found = subst (λ (z : Event). OfState entry (Happens z.line z.index)) (sym at)
+      (λ s rest holds. record { line = entries_of p; numbered = refl; happens = level_in s (entries_of p) (newest_low t (history_at s p) (found s rest holds)) })

@@ -1,5 +1,5 @@
 -- What the parts of a rollback answer, and what they leave in the store.
-use Rattle.std.specs.Prelude.{ℕ, ◌≡◌, true, List, ◌++◌}
+use Rattle.std.specs.Prelude.{ℕ, ◌≡◌, true, List, ◌++◌, Option, None, Some, Ok, Err}
 use Rattle.std.proofs.Math.Option.{none, some}
 use Rattle.rules.specs.Answers.{held}
 use Rattle.rules.specs.State.{State, history_at}
@@ -7,11 +7,9 @@ use Rattle.rules.specs.Commands.{run_state}
 use Rattle.rules.specs.Depends.{Series, happened, event}
 use Rattle.rules.specs.Rollback.{Cut, cut_before, undo_of, newest_check, RolledBack, refused, rolled, undo_to, rolled_state}
 use Rattle.store.specs.Layout.{image}
-use Rattle.calls.specs.declared.answers.Answer.{Answer}
-use Rattle.calls.specs.declared.answers.Answer.TheVariants.{Done, Held}
+use Rattle.calls.specs.Numbers.{Answer}
+use Rattle.calls.specs.declared.answers.Refusal.TheVariants.{Held}
 use Rattle.reading.specs.Reads.{Holds}
-use Rattle.reading.specs.declared.found.Found.{Found}
-use Rattle.reading.specs.declared.found.Found.TheVariants.{Nowhere, At}
 use Rattle.cuts.specs.Links.{line_number}
 
 -- ---- the writing
@@ -28,8 +26,8 @@ UndoesLine x s s' = (y : Series) → line_number y ≡ x → run_state (undo_of 
 
 -- an answer with the count, or 13
 pub data Tells : RolledBack → Answer → Type 0 where
-  tells_done : (n : ℕ) (end : State) → Tells (rolled n end) (Done n)
-  tells_held : Tells (refused held) Held
+  tells_done : (n : ℕ) (end : State) → Tells (rolled n end) (Ok n)
+  tells_held : Tells (refused held) (Err Held)
 
 -- the words that held s hold what a rollback leaves, and words past it are as they were
 pub record TakesBack (s : State) (rest exit : List ℕ) (back : RolledBack) (r : Answer) : Type 0 where
@@ -62,6 +60,6 @@ EventBack x i exit r s rest = (y : Series) → line_number y ≡ x → TakesBack
 
 -- ---- the checkpoint
 
-unfoldable pub FindsCheck : (p t : ℕ) → Found → State → Type 0
-FindsCheck p t Nowhere s = newest_check t (history_at s p) ≡ none
-FindsCheck p t (At i) s = newest_check t (history_at s p) ≡ some i
+unfoldable pub FindsCheck : (p t : ℕ) → Option ℕ → State → Type 0
+FindsCheck p t None s = newest_check t (history_at s p) ≡ none
+FindsCheck p t (Some i) s = newest_check t (history_at s p) ≡ some i

@@ -10,12 +10,12 @@ ghost use Rattle.cuts.specs.Chains.{Waiting};
 ghost use Rattle.cuts.specs.Going.{Ready};
 ghost use Rattle.rollback.specs.Undone.{CanUndoLine, UndoesLine, Reaches, OfWords, Leaves, TakesBack};
 
-use calls::answers::Answer;
+use calls::answers::{Answer, Refusal};
 use cuts::bounds::{INDEX_ROOM, LINES, NO_LINK};
 use cuts::chains::index_links;
 use cuts::events::{has_entries, place_of};
-use cuts::found::Found;
-use cuts::search::{Descent, next_line, seek};
+use cuts::link::Link;
+use cuts::search::{next_line, seek};
 use writing::posting::unpost;
 use writing::undoing::undo;
 
@@ -34,41 +34,34 @@ fn undo_line(store: &mut [u32], x: usize)
 // Everything above the cut is undone.
 fn undo_down(
     store: &mut [u32],
-    links: &[usize],
-    count: usize,
+    links: &[Link],
     index: &mut [u16; INDEX_ROOM],
     cut: &[usize; LINES],
     levels: &[usize; LINES],
 )
-    requires { IsImage store.old × Room links.now count × Waiting links.now count levels.now index.old × OfState store.old (λ s. Ready s links.now count cut.now levels.now) × OfState store.old (λ s. Reaches s (cut_in cut.now)) }
+    requires { IsImage store.old × Room links.now × Waiting links.now levels.now index.old × OfState store.old (λ s. Ready s links.now cut.now levels.now) × OfState store.old (λ s. Reaches s (cut_in cut.now)) }
     ensures { OfWords store.old (λ s rest. Leaves s (cut_in cut.now) rest store.new) }
 {
     let mut level = *levels;
-    loop {
-        let Found::At(x) = next_line(links, count, index, cut, &level) else {
-            return;
-        };
+    while let Some(x) = next_line(links, index, cut, &level) {
         undo_line(store, x);
-        level[x] = level[x] - 1;
+        level[x] -= 1;
     }
 }
 
 // What is above the cut is undone, or nothing is.
 pub fn undo_to(
     store: &mut [u32],
-    links: &[usize],
-    count: usize,
+    links: &[Link],
     cut: &[usize; LINES],
     levels: &[usize; LINES],
 ) -> Answer
-    requires { IsImage store.old × Room links.now count × (sum_of levels.now ≤ most_events) × OfState store.old (λ s. Ready s links.now count cut.now levels.now) }
+    requires { IsImage store.old × Room links.now × (sum_of levels.now ≤ most_events) × OfState store.old (λ s. Ready s links.now cut.now levels.now) }
     ensures { OfWords store.old (λ s rest. TakesBack s rest store.new (undo_to s (cut_in cut.now)) result) }
 {
-    let Descent::Reaches(n) = seek(links, count, cut, levels) else {
-        return Answer::Held;
-    };
+    let undone = seek(links, cut, levels).ok_or(Refusal::Held)?;
     let mut index = [NO_LINK; INDEX_ROOM];
-    index_links(links, count, &mut index);
-    undo_down(store, links, count, &mut index, cut, levels);
-    Answer::Done(n)
+    index_links(links, &mut index);
+    undo_down(store, links, &mut index, cut, levels);
+    Ok(undone)
 }

@@ -1,67 +1,50 @@
 // Rollback.
-ghost use Rattle.std.specs.Prelude.{◌≡◌};
-ghost use Rattle.rules.specs.State.{as_check};
-ghost use Rattle.rules.specs.Rollback.{is_check};
 ghost use Rattle.store.specs.Image.{IsImage};
 ghost use Rattle.calls.specs.Numbers.{RollbackCall};
-ghost use Rattle.reading.specs.Reads.{OfState, IsPlace, IsEntry, OfEntry};
+ghost use Rattle.reading.specs.Reads.{OfState, IsPlace};
 ghost use Rattle.cuts.specs.Links.{Levels, Links};
 ghost use Rattle.rollback.specs.Undone.{FindsCheck, Happens, EventBack, OfWords};
 
 use crate::down::undo_to;
-use calls::answers::Answer;
-use cuts::bounds::{LINES, LINKS_ROOM};
+use calls::answers::{Answer, Refusal};
+use cuts::bounds::LINES;
 use cuts::cut::settled;
-use cuts::events::{Event, entries_line};
+use cuts::events::{Event, entry};
+use cuts::link::{Link, LinkVec};
+use kinds::Kind;
 use links::arrivals::levels;
-use links::collecting::{Sort, collect};
-use reading::entries::{kind, number};
-use reading::found::Found;
+use links::collecting::{Aims, Ties, collect};
+use reading::entries::is_numbered;
 use reading::state::{entry_count, in_pool};
 use soundness::sound::sound;
-use store::layout::CHECK;
-
-// Whether entry i of p is check t.
-fn is_check(store: &[u32], p: usize, i: usize, t: u32) -> bool
-    requires { IsImage store.now × OfState store.now (IsEntry p i) }
-    ensures { OfState store.now (OfEntry p i (λ e. result ≡ is_check t (as_check e.kind))) }
-{
-    if kind(store, p, i) != CHECK {
-        return false;
-    }
-    number(store, p, i) == t
-}
 
 // The newest check entry t of p.
-fn newest_check(store: &[u32], p: usize, t: u32) -> Found
+fn newest_check(store: &[u32], p: usize, t: u32) -> Option<usize>
     requires { IsImage store.now × OfState store.now (IsPlace p) }
     ensures { OfState store.now (FindsCheck p t result) }
 {
-    let mut i = entry_count(store, p);
-    while 0 < i {
-        i -= 1;
-        if is_check(store, p, i, t) {
-            return Found::At(i);
+    for i in (0..entry_count(store, p)).rev() {
+        if is_numbered(store, p, i, Kind::Check, t) {
+            return Some(i);
         }
     }
-    Found::Nowhere
+    None
 }
 
-// With the numbers of the state, of which the first links are 01's list: an event is undone with all events that depend on it, or nothing
-// is.
+// With the numbers of the state, of which the first few links are 01's list: an event is undone with all events that depend on it, or
+// nothing is. The links are not split in two: `settled` takes the first few, `undo_to` all of them.
 fn event_back(
     store: &mut [u32],
-    links: &[usize],
+    links: &[Link],
     few: usize,
-    many: usize,
     levels: &[usize; LINES],
     event: Event,
 ) -> Answer
-    requires { IsImage store.old × OfState store.old (λ s. Links s links.now few many) × OfState store.old (λ s. Levels s levels.now) × OfState store.old (Happens event.line event.index) }
+    requires { IsImage store.old × OfState store.old (λ s. Links s links.now few) × OfState store.old (λ s. Levels s levels.now) × OfState store.old (Happens event.line event.index) }
     ensures { OfWords store.old (EventBack event.line event.index store.new result) }
 {
-    let cut = settled(links, few, levels, event.line, event.index);
-    undo_to(store, links, many, &cut, levels)
+    let cut = settled(&links[..few], levels, event);
+    undo_to(store, links, &cut, levels)
 }
 
 // An event is undone with all events that depend on it, or nothing is.
@@ -70,10 +53,11 @@ pub fn take_back(store: &mut [u32], event: Event) -> Answer
     ensures { OfWords store.old (EventBack event.line event.index store.new result) }
 {
     let level = levels(store);
-    let mut links = [0usize; LINKS_ROOM];
-    let few = collect(store, Sort::Ties, &mut links, 0);
-    let many = collect(store, Sort::Aims, &mut links, few);
-    event_back(store, &links, few, many, &level, event)
+    let mut links = LinkVec::new();
+    collect::<Ties>(store, &mut links);
+    let few = links.len();
+    collect::<Aims>(store, &mut links);
+    event_back(store, links.as_slice(), few, &level, event)
 }
 
 // rollback p t
@@ -81,20 +65,11 @@ pub fn rollback(store: &mut [u32], p: u32, t: u32) -> Answer
     ensures { RollbackCall p t store.old store.new result }
 {
     if !sound(store) {
-        return Answer::NotAState;
+        return Err(Refusal::NotAState);
     }
     if !in_pool(store, p) {
-        return Answer::NoProcess;
+        return Err(Refusal::NoProcess);
     }
-    let Found::At(i) = newest_check(store, p as usize, t) else {
-        return Answer::NoCheckpoint;
-    };
-    let line = entries_line(p as usize);
-    take_back(
-        store,
-        Event {
-            line: line,
-            index: i,
-        },
-    )
+    let index = newest_check(store, p as usize, t).ok_or(Refusal::NoCheckpoint)?;
+    take_back(store, entry(p as usize, index))
 }

@@ -1,20 +1,24 @@
 -- The code's tables hold what the table of the 18 tags says: one test computed over each column.
-use Prim.Native.Nat.{ℕ, zero, suc, ◌+◌, ◌<◌}
-use mathlib.Core.Path.{◌≡◌, refl, sym, ◌∙◌}
+use Prim.Native.Nat.{ℕ, zero, suc, ◌+◌, ◌≤◌, ◌<◌}
+use mathlib.Core.Path.{◌≡◌, refl, sym, ap, ◌∙◌}
 use mathlib.Core.Bool.{Bool, true, ◌&&◌}
 use mathlib.Core.List.{List, [], ◌∷◌, map}
 use mir.Syntax.{w32}
 use mir.Val.{Fits}
 use native.Mathlib.Omega.{arith}
+use native.Mathlib.Numerals.{add-one}
 use lib.Dec.{leb}
 use lib.ListN.{get_or, get_or-map, get_or-eq_default}
 use Rattle.lists.proofs.Tests.{leb-true, and_left, and_right}
 use Rattle.term.specs.Words.{tag_of, n_of, tag_function}
 use Rattle.term.specs.Table.{Children, alike, body, of_clause, of_case, of_receive, Row, no_row, table, row_of, child_count, arity}
-use Rattle.rows.specs.Kinds.{kind_of, ChildCount, kind_body, kind_case}
+use Rattle.term.proofs.WordLaws.{n_small}
+use Rattle.rows.specs.declared.tables.ChildKind.{ChildKind}
+use Rattle.rows.specs.declared.tables.ChildKind.TheVariants.{Alike, Body, OfClause, OfCase, OfReceive}
+use Rattle.rows.specs.Kinds.{children_of, ChildCount}
 
 -- a column of the table, at any row
-pub at_row : (column : Row → ℕ) (tag : ℕ) → column (row_of tag) ≡ get_or (map column table) tag (column no_row)
+pub at_row : {A : Type 0} (column : Row → A) (tag : ℕ) → column (row_of tag) ≡ get_or (map column table) tag (column no_row)
 unfolding row_of
 at_row column tag = sym (get_or-map column table tag no_row)
 
@@ -34,44 +38,32 @@ pub past_rows : (tag : ℕ) → tag_function < tag → no_row ≡ row_of tag
 unfolding row_of table
 past_rows tag h = sym (get_or-eq_default table no_row h)
 
--- how many children a word has, by the number of what stands below it
-arity_body : (c : Children) (n : ℕ) → kind_of c ≡ kind_body → child_count c n ≡ 1
-unfolding kind_of child_count
-arity_body alike n e = absurd (omega arith)
-arity_body body n e = refl
-arity_body of_clause n e = absurd (omega arith)
-arity_body of_case n e = absurd (omega arith)
-arity_body of_receive n e = absurd (omega arith)
+-- the column of what stands below a word
+abbrev kinds : List ChildKind
+kinds = Alike ∷ Alike ∷ Alike ∷ Alike ∷ Alike ∷ Alike ∷ Alike ∷ Alike ∷ Alike ∷ Alike ∷ OfCase ∷ Alike ∷ OfReceive ∷ Alike ∷ Alike ∷ Alike ∷ Alike ∷ OfClause ∷ Body ∷ []
 
-arity_case : (c : Children) (n : ℕ) → kind_of c ≡ kind_case → child_count c n ≡ suc n
-unfolding kind_of child_count
-arity_case alike n e = absurd (omega arith)
-arity_case body n e = absurd (omega arith)
-arity_case of_clause n e = absurd (omega arith)
-arity_case of_case n e = refl
-arity_case of_receive n e = absurd (omega arith)
+pub kind_at : (tag : ℕ) → children_of (get_or kinds tag Alike) ≡ (row_of tag).children
+unfolding table
+kind_at tag = sym (get_or-map children_of kinds tag Alike) ∙ sym (at_row (λ row. row.children) tag)
 
-arity_other : (c : Children) (n : ℕ) → ¬ (kind_of c ≡ kind_body) → ¬ (kind_of c ≡ kind_case) → child_count c n ≡ n
-unfolding kind_of child_count
-arity_other alike n d e = refl
-arity_other body n d e = absurd (d refl)
-arity_other of_clause n d e = refl
-arity_other of_case n d e = absurd (e refl)
-arity_other of_receive n d e = refl
-
-module _ (w t g : ℕ) (et : t ≡ tag_of w) (eg : g ≡ kind_of (row_of t).children) where
-  pub count_body : g ≡ kind_body → ChildCount w 1
+-- how many children a word has, by what stands below it
+module _ (w t : ℕ) (et : t ≡ tag_of w) (n : ℕ) (en : n ≡ n_of w) where
+  counted : (c : Children) → c ≡ (row_of t).children → (r : ℕ) → r ≡ child_count c n → r ≤ 256 → ChildCount w r
   unfolding arity
-  count_body e = record { is = sym (arity_body (row_of (tag_of w)).children (n_of w) (rw et at (sym eg ∙ e))); few = omega arith }
+  counted c ec r er few = record { is = er ∙ ap (λ (d : Children). child_count d n) ec ∙ rw (et, en) refl; few = few }
 
-  pub count_case : (n : ℕ) → n ≡ n_of w → g ≡ kind_case → ChildCount w (n + 1)
-  unfolding arity
-  count_case n en e = record { is = omega (arith, en, arity_case (row_of (tag_of w)).children (n_of w) (rw et at (sym eg ∙ e))); few = omega arith }
+  pub count_body : body ≡ (row_of t).children → ChildCount w 1
+  unfolding child_count
+  count_body e = counted body e 1 refl (omega arith)
 
-  pub count_other : (n : ℕ) → n ≡ n_of w → ¬ (g ≡ kind_body) → ¬ (g ≡ kind_case) → ChildCount w n
-  unfolding arity
-  count_other n en d e =
-      record {
-        is = omega (arith, en, arity_other (row_of (tag_of w)).children (n_of w) (λ i. d (eg ∙ rw et i)) (λ i. e (eg ∙ rw et i)));
-        few = omega arith;
-      }
+  pub count_case : of_case ≡ (row_of t).children → ChildCount w (n + 1)
+  unfolding child_count
+  count_case e = counted of_case e (n + 1) (add-one n) (omega (arith, en, n_small w))
+
+  pub count_other : (g : ChildKind) → children_of g ≡ (row_of t).children → ¬ (g ≡ Body) → ¬ (g ≡ OfCase) → ChildCount w n
+  unfolding child_count
+  count_other Alike e a b = counted alike e n refl (omega (arith, en, n_small w))
+  count_other Body e a b = absurd (a refl)
+  count_other OfClause e a b = counted of_clause e n refl (omega (arith, en, n_small w))
+  count_other OfCase e a b = absurd (b refl)
+  count_other OfReceive e a b = counted of_receive e n refl (omega (arith, en, n_small w))

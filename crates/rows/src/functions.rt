@@ -9,13 +9,11 @@ pub fn function_start(row: &[u32], number: usize) -> usize
     ensures { result ≡ start_from row.now 0 number }
 {
     let mut at = 0;
-    let mut left = number;
-    while at < row.len() {
-        if left == 0 {
-            return at;
+    for _ in 0..number {
+        if row.len() <= at {
+            break;
         }
         at = skip(row, at, 1);
-        left -= 1;
     }
     at
 }

@@ -1,14 +1,15 @@
 // The table of the 18 tags: least and greatest n, how many k there are, and what stands below.
 ghost use Rattle.std.specs.Prelude.{◌≡◌};
 ghost use Rattle.term.specs.Table.{row_of};
-ghost use Rattle.rows.specs.Kinds.{kind_of, ChildCount};
+ghost use Rattle.rows.specs.Kinds.{children_of, ChildCount};
 
 use crate::words::{CHECK_NUMBERS, FUNCTION, K_RANGE, VARIABLES, n, tag};
 
 // How many rows the table has: row 0 is no tag's, the last is that of functions.
 const ROWS: usize = FUNCTION as usize + 1;
 
-// Columns of bytes, where numbers are small: a constant array is built anew wherever it is read, and bytes are built at once.
+// Columns, of bytes where numbers are small: a constant array is built anew wherever it is read, and bytes are built at once. A row for each tag, from a
+// `match`, was tried: the numbers of one are then told some five times slower.
 const LEAST: [u8; ROWS] = [
     0, // no tag
     0, // variable
@@ -77,38 +78,38 @@ const LIMIT: [u32; ROWS] = [
 ];
 
 // What stands below a word: n children of its own kind; one expression; pattern, guard and body; a subject and n clauses; n clauses.
-pub const ALIKE: u32 = 0;
+#[derive(Clone, Copy, Debug, PartialEq, Eq)]
+pub enum ChildKind {
+    Alike,
+    Body,
+    OfClause,
+    OfCase,
+    OfReceive,
+}
 
-pub const BODY: u32 = 1;
-
-pub const OF_CLAUSE: u32 = 2;
-
-pub const OF_CASE: u32 = 3;
-
-pub const OF_RECEIVE: u32 = 4;
-
-const CHILDREN: [u8; ROWS] = [
-    ALIKE as u8, // no tag
-    ALIKE as u8, // variable
-    ALIKE as u8, // atom
-    ALIKE as u8, // integer
-    ALIKE as u8, // pid
-    ALIKE as u8, // nil
-    ALIKE as u8, // cons
-    ALIKE as u8, // tuple
-    ALIKE as u8, // call
-    ALIKE as u8, // apply
-    OF_CASE as u8, // case
-    ALIKE as u8, // let
-    OF_RECEIVE as u8, // receive
-    ALIKE as u8, // spawn
-    ALIKE as u8, // send
-    ALIKE as u8, // self
-    ALIKE as u8, // check
-    OF_CLAUSE as u8, // clause
-    BODY as u8, // function
+const CHILDREN: [ChildKind; ROWS] = [
+    ChildKind::Alike, // no tag
+    ChildKind::Alike, // variable
+    ChildKind::Alike, // atom
+    ChildKind::Alike, // integer
+    ChildKind::Alike, // pid
+    ChildKind::Alike, // nil
+    ChildKind::Alike, // cons
+    ChildKind::Alike, // tuple
+    ChildKind::Alike, // call
+    ChildKind::Alike, // apply
+    ChildKind::OfCase, // case
+    ChildKind::Alike, // let
+    ChildKind::OfReceive, // receive
+    ChildKind::Alike, // spawn
+    ChildKind::Alike, // send
+    ChildKind::Alike, // self
+    ChildKind::Alike, // check
+    ChildKind::OfClause, // clause
+    ChildKind::Body, // function
 ];
 
+// One function for each column: a shared one would have to be lent the column, which is then built anew, and each would keep its contract and so its name.
 pub fn least(tag: u32) -> u32
     ensures { result ≡ (row_of tag).least }
 {
@@ -136,13 +137,13 @@ pub fn limit(tag: u32) -> u32
     LIMIT[tag as usize]
 }
 
-pub fn below(tag: u32) -> u32
-    ensures { result ≡ kind_of (row_of tag).children }
+pub fn below(tag: u32) -> ChildKind
+    ensures { children_of result ≡ (row_of tag).children }
 {
     if FUNCTION < tag {
-        return ALIKE;
+        return ChildKind::Alike;
     }
-    CHILDREN[tag as usize] as u32
+    CHILDREN[tag as usize]
 }
 
 // How many children a word has.
@@ -150,12 +151,9 @@ pub fn children(w: u32) -> usize
     ensures { ChildCount w result }
 {
     let count = n(w) as usize;
-    let kind = below(tag(w));
-    if kind == BODY {
-        return 1;
+    match below(tag(w)) {
+        ChildKind::Body => 1,
+        ChildKind::OfCase => count + 1,
+        _ => count,
     }
-    if kind == OF_CASE {
-        return count + 1;
-    }
-    count
 }

@@ -2,6 +2,7 @@
 ghost use Rattle.std.specs.Prelude.{◌≡◌, ◌<◌};
 ghost use Rattle.term.specs.Words.{word, tag_of, n_of, k_of};
 
+// The tags: numbers, since a tag is what a word has of them, and the words are lent by C.
 pub const VARIABLE: u32 = 1;
 
 pub const ATOM: u32 = 2;

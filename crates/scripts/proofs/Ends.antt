@@ -7,15 +7,14 @@ use native.Mathlib.Omega.{arith}
 use native.Mathlib.Decide.{dec_le}
 use lib.Dec.{leb}
 use lib.ListN.{length}
+use Rattle.std.specs.Prelude.{Ok}
 use Rattle.lists.proofs.Tests.{true_or_false, leb-true}
 use Rattle.rules.specs.Answers.{done, no_room, not_a_state}
 use Rattle.rules.specs.Listing.{listing}
 use Rattle.store.specs.Image.{IsImage}
 use Rattle.store.specs.Loading.{Outcome}
 use Rattle.calls.specs.Calls.{written, ListingCall}
-use Rattle.calls.specs.Numbers.{number_of, value_of, Lists}
-use Rattle.calls.specs.declared.answers.Answer.{Answer}
-use Rattle.calls.specs.declared.answers.Answer.TheVariants.{Done}
+use Rattle.calls.specs.Numbers.{Answer, number_of, value_of, Lists}
 
 -- a listing that is answered `done`
 written_ends : (text out : List ℕ) → (written text out).number ≡ done → (written text out).value ≤ length out
@@ -26,7 +25,7 @@ written_ends text out h = elim (true_or_false (leb (length text) (length out))) 
 ]
 
 -- if its length went past the output the store would be no image, and the listing refused
-pub listing_ends : (store old new : List ℕ) (a : Answer) (n : ℕ) → Lists store old new a → a ≡ Done n → length new ≡ length old → n ≤ length new
+pub listing_ends : (store old new : List ℕ) (a : Answer) (n : ℕ) → Lists store old new a → a ≡ Ok n → length new ≡ length old → n ≤ length new
 unfolding Lists ListingCall number_of value_of
 listing_ends store old new a n call is long = elim (dec_le n (length old)) [
   | yes l ↦ omega arith

@@ -19,10 +19,9 @@ pub fn print_reply<W: Write>(to: &mut W, store: &mut [u32], text: &[u8]) -> Resu
 // Prints the listing, by way of an output; nothing where it is refused.
 pub fn print_listing<W: Write>(to: &mut W, store: &[u32], out: &mut [u8]) -> Result<Answer> {
     let a = listing(store, out);
-    let Answer::Done(length) = a else {
-        return Ok(a);
-    };
-    print(to, out, length as usize)?;
+    if let Ok(length) = a {
+        print(to, out, length as usize)?;
+    }
     Ok(a)
 }
 

@@ -1,10 +1,10 @@
 // One line of a script.
 use crate::printing::{list, print_listing, print_reply};
-use calls::answers::{Answer, number};
+use calls::answers::Answer;
 use console::printing::print_number;
-use console::words::{WORD_BYTES, alter_line, clear};
+use console::words::{WORD_BYTES, alter_line};
 use loads::loads::{LOADED, load_line};
-use parsing::parsing::{Number, begins, read_number};
+use parsing::parsing::{after, read_number};
 use std::io::{Result, Write};
 use text::keys::ANSWER;
 
@@ -27,15 +27,15 @@ const SHORTENED: usize = 256;
 
 // Prints a refusal of the listing.
 fn refused<W: Write>(to: &mut W, a: Answer) -> Result<()> {
-    if number(a) != 0 {
-        print_number(to, &ANSWER, number(a))?;
+    if let Err(refusal) = a {
+        print_number(to, &ANSWER, u32::from(refusal))?;
     }
     Ok(())
 }
 
 fn short_line<W: Write>(to: &mut W, store: &[u32], text: &[u8]) -> Result<()> {
     let mut out = [0u8; SHORTENED];
-    let Number::Value(n) = read_number(text) else {
+    let Some(n) = read_number(text) else {
         return Ok(());
     };
     let end = n as usize;
@@ -48,22 +48,22 @@ fn short_line<W: Write>(to: &mut W, store: &[u32], text: &[u8]) -> Result<()> {
 
 // A line, and what it prints. An error is one of printing: the store is then as the line made it.
 pub fn perform<W: Write>(to: &mut W, store: &mut [u32], text: &[u8]) -> Result<()> {
-    if begins(text, &LOAD) {
-        return load_line(to, store, &text[LOAD.len()..]);
+    if let Some(words) = after(text, &LOAD) {
+        return load_line(to, store, words);
     }
-    if begins(text, &LIST) {
+    if text.starts_with(&LIST) {
         let a = list(to, store)?;
         return refused(to, a);
     }
-    if begins(text, &SHORT) {
-        return short_line(to, store, &text[SHORT.len()..]);
+    if let Some(digits) = after(text, &SHORT) {
+        return short_line(to, store, digits);
     }
-    if begins(text, &CLEAR) {
-        clear(store);
+    if text.starts_with(&CLEAR) {
+        store.fill(0);
         return Ok(());
     }
-    if begins(text, &ALTER) {
-        alter_line(store, &text[ALTER.len()..]);
+    if let Some(words) = after(text, &ALTER) {
+        alter_line(store, words);
         return Ok(());
     }
     print_reply(to, store, text)

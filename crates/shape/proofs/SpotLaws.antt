@@ -7,12 +7,10 @@ use mathlib.Core.Bool.{Bool, true, false, not, ◌&&◌, ◌||◌}
 use mathlib.Core.List.{List, [], ◌∷◌, append-nil}
 use native.Mathlib.Omega.{arith}
 use lib.Dec.{eqb, leb, ltb}
-use lib.ListN.{replicate}
 use Rattle.lists.specs.Lists.{member}
-use Rattle.lists.proofs.Tests.{eqb_of, eqb_apart, cond_true, cond_false, leb_of, leb_over, not_true, not_false, leb-true, eqb-true, and_left, and_right, and_of, or_true, or_left, or_right, true_not_false}
+use Rattle.lists.proofs.Tests.{eqb_of, eqb_apart, cond_true, cond_false, leb_of, leb-true, eqb-true, and_left, and_right, and_of, or_true, or_left, or_right, true_not_false}
 use Rattle.term.specs.Words.{tag_of, n_of, k_of, tag_pid, tag_call}
 use Rattle.term.specs.Table.{Children, alike, body, of_clause, of_case, of_receive, row_of, tags_at, k_limit, fits, own_spot, spots_below, child_spots, spot_guard, spot_value, spot_function, spot_expression, spot_pattern, spot_clause}
-use Rattle.rows.specs.Kinds.{kind_of, kind_body, kind_clause, kind_case, kind_receive}
 use Rattle.shape.specs.declared.shape.Spots.{Spots}
 use Rattle.shape.specs.Reading.{RunsOf, one_run}
 
@@ -92,9 +90,9 @@ module _ (places tag : ℕ) where
     guard_control z r h =
         h ∙ sym (in_run tag 1 6) ∙ sym (rw (eqb_apart tag 8 d) at (same_members tag (1 ∷ 2 ∷ 3 ∷ 5 ∷ 8 ∷ 4 ∷ 6 ∷ 7 ∷ []) (8 ∷ 1 ∷ 2 ∷ 3 ∷ 4 ∷ 5 ∷ 6 ∷ 7 ∷ []) refl refl)) ∙ rw (eqb_apart places 0 z, eqb_apart tag 8 d) refl
 
-    pub guard_pid : places ≡ 0 → tag ≡ tag_pid → false ≡ member tag (tags_at places spot_guard)
+    pub guard_pid : places ≡ 0 → tag ≡ tag_pid → not (eqb tag tag_pid) ≡ member tag (tags_at places spot_guard)
     unfolding tags_at member
-    guard_pid z e = sym (rw (z, e) refl)
+    guard_pid z e = rw (z, e) refl
 
     pub guard_module : places ≡ 0 → ¬ (tag ≡ tag_pid) → (r : Bool) → r ≡ (leb 1 tag && leb tag 5) → r ≡ member tag (tags_at places spot_guard)
     unfolding tags_at run member
@@ -110,9 +108,9 @@ module _ (places spot tag : ℕ) where
   unfolding tags_at run
   stands_value e r h = h ∙ rw e (sym (in_run tag 2 5))
 
-  pub stands_no_pid : spot ≡ spot_pattern → tag ≡ tag_pid → false ≡ member tag (tags_at places spot)
+  pub stands_no_pid : spot ≡ spot_pattern → tag ≡ tag_pid → not (eqb tag tag_pid) ≡ member tag (tags_at places spot)
   unfolding tags_at member
-  stands_no_pid e p = sym (rw (e, p) refl)
+  stands_no_pid e p = rw (e, p) refl
 
   pub stands_pattern : spot ≡ spot_pattern → ¬ (tag ≡ tag_pid) → (r : Bool) → r ≡ (leb 1 tag && leb tag 7) → r ≡ member tag (tags_at places spot)
   unfolding tags_at run member
@@ -155,21 +153,6 @@ pub own_value : (spot tag : ℕ) → spot ≡ spot_guard → ¬ (tag ≡ tag_cal
 unfolding own_spot
 own_value spot tag e d = sym (rw (eqb_of spot spot_guard e, eqb_apart tag tag_call d))
 
--- whether a tag lies between two others
-pub below_low : (low tag high : ℕ) → tag < low → false ≡ (leb low tag && leb tag high)
-below_low low tag high h = sym (rw (leb_over low tag h))
-
-pub above_low : (low tag high : ℕ) → low ≤ tag → leb tag high ≡ (leb low tag && leb tag high)
-above_low low tag high h = sym (rw (leb_of low tag h))
-
--- whether n is in a tag's range, by the tests of the code
-module _ (t n a : ℕ) (ea : a ≡ (row_of t).least) where
-  pub n_least : n < a → false ≡ (leb (row_of t).least n && leb n (row_of t).greatest)
-  n_least h = sym (rw (← ea, leb_over a n h))
-
-  pub n_greatest : a ≤ n → (b : ℕ) → b ≡ (row_of t).greatest → leb n b ≡ (leb (row_of t).least n && leb n (row_of t).greatest)
-  n_greatest h b eb = sym (rw (← ea, leb_of a n h, ← eb))
-
 and_group : (a b c d : Bool) → (a && (b && (c && d))) ≡ (a && ((b && c) && d))
 and_group true true c d = refl
 and_group true false c d = refl
@@ -182,83 +165,38 @@ fits_grouped places spot w = and_group (member (tag_of w) (tags_at places spot))
 
 -- whether a word fits, by the tests of the code over the values that it reads
 module _ (places spot w t : ℕ) (et : t ≡ tag_of w) (s : Bool) (es : s ≡ member t (tags_at places spot)) where
-  pub fits_not : not s ≡ true → false ≡ fits places spot w
-  fits_not e = sym (fits_grouped places spot w ∙ rw (← et, ← es, not_true s e))
+  pub fits_not : s ≡ false → false ≡ fits places spot w
+  fits_not e = sym (fits_grouped places spot w ∙ rw (← et, ← es, e))
 
-  module _ (ts : not s ≡ false) (n : ℕ) (en : n ≡ n_of w) (m : Bool) (em : m ≡ (leb (row_of t).least n && leb n (row_of t).greatest)) where
-    pub fits_n : not m ≡ true → false ≡ fits places spot w
-    fits_n e = sym (fits_grouped places spot w ∙ rw (← et, ← es, not_false s ts, ← en, ← em, not_true m e))
+  module _ (ts : s ≡ true) (n : ℕ) (en : n ≡ n_of w) (m : Bool) (em : m ≡ (leb (row_of t).least n && leb n (row_of t).greatest)) where
+    pub fits_n : m ≡ false → false ≡ fits places spot w
+    fits_n e = sym (fits_grouped places spot w ∙ rw (← et, ← es, ts, ← en, ← em, e))
 
-    pub fits_k : not m ≡ false → (y : ℕ) → y ≡ k_of w → (x : ℕ) → x ≡ k_limit places t → ltb y x ≡ fits places spot w
-    fits_k e y ey x ex = sym (fits_grouped places spot w ∙ rw (← et, ← es, not_false s ts, ← en, ← em, not_false m e, ← ey, ← ex))
+    pub fits_k : m ≡ true → (y : ℕ) → y ≡ k_of w → (x : ℕ) → x ≡ k_limit places t → ltb y x ≡ fits places spot w
+    fits_k e y ey x ex = sym (fits_grouped places spot w ∙ rw (← et, ← es, ts, ← en, ← em, e, ← ey, ← ex))
 
--- the spots below a word, by the number of what stands there
-below_clause : (c : Children) (spot tag n : ℕ) → kind_of c ≡ kind_clause → spot_pattern ∷ spot_guard ∷ spot_expression ∷ [] ≡ spots_below c spot tag n
-unfolding kind_of spots_below
-below_clause alike spot tag n e = absurd (omega arith)
-below_clause body spot tag n e = absurd (omega arith)
-below_clause of_clause spot tag n e = refl
-below_clause of_case spot tag n e = absurd (omega arith)
-below_clause of_receive spot tag n e = absurd (omega arith)
-
-below_case : (c : Children) (spot tag n : ℕ) → kind_of c ≡ kind_case → spot_expression ∷ replicate n spot_clause ≡ spots_below c spot tag n
-unfolding kind_of spots_below
-below_case alike spot tag n e = absurd (omega arith)
-below_case body spot tag n e = absurd (omega arith)
-below_case of_clause spot tag n e = absurd (omega arith)
-below_case of_case spot tag n e = refl
-below_case of_receive spot tag n e = absurd (omega arith)
-
-below_receive : (c : Children) (spot tag n : ℕ) → kind_of c ≡ kind_receive → replicate n spot_clause ≡ spots_below c spot tag n
-unfolding kind_of spots_below
-below_receive alike spot tag n e = absurd (omega arith)
-below_receive body spot tag n e = absurd (omega arith)
-below_receive of_clause spot tag n e = absurd (omega arith)
-below_receive of_case spot tag n e = absurd (omega arith)
-below_receive of_receive spot tag n e = refl
-
-below_body : (c : Children) (spot tag n : ℕ) → kind_of c ≡ kind_body → spot_expression ∷ [] ≡ spots_below c spot tag n
-unfolding kind_of spots_below
-below_body alike spot tag n e = absurd (omega arith)
-below_body body spot tag n e = refl
-below_body of_clause spot tag n e = absurd (omega arith)
-below_body of_case spot tag n e = absurd (omega arith)
-below_body of_receive spot tag n e = absurd (omega arith)
-
-below_alike : (c : Children) (spot tag n : ℕ) → ¬ (kind_of c ≡ kind_clause) → ¬ (kind_of c ≡ kind_case) → ¬ (kind_of c ≡ kind_receive) → ¬ (kind_of c ≡ kind_body) → replicate n (own_spot spot tag) ≡ spots_below c spot tag n
-unfolding kind_of spots_below
-below_alike alike spot tag n a b c d = refl
-below_alike body spot tag n a b c d = absurd (d refl)
-below_alike of_clause spot tag n a b c d = absurd (a refl)
-below_alike of_case spot tag n a b c d = absurd (b refl)
-below_alike of_receive spot tag n a b c d = absurd (c refl)
-
-abbrev kind_of_word : ℕ → ℕ
-kind_of_word w = kind_of (row_of (tag_of w)).children
-
-module _ (spot w n : ℕ) (en : n ≡ n_of w) (t : ℕ) (et : t ≡ tag_of w) (g : ℕ) (eg : g ≡ kind_of (row_of t).children) where
-  kind_is : g ≡ kind_of_word w
-  kind_is = rw (← et) eg
-
-  pub runs_clause : g ≡ kind_clause → RunsOf spot w (record { first = spot_pattern; firsts = 1; second = spot_guard; seconds = 1; third = spot_expression; thirds = 1 })
+-- the spots below a word, by what stands there
+module _ (spot w n : ℕ) (en : n ≡ n_of w) (t : ℕ) (et : t ≡ tag_of w) where
+  below_is : (c : Children) → c ≡ (row_of t).children → spots_below c spot t n ≡ child_spots spot w
   unfolding child_spots
-  runs_clause e = below_clause (row_of (tag_of w)).children spot (tag_of w) (n_of w) (sym kind_is ∙ e)
+  below_is c e = ap (λ (d : Children). spots_below d spot t n) e ∙ rw (et, en) refl
 
-  pub runs_case : g ≡ kind_case → RunsOf spot w (record { first = spot_expression; firsts = 1; second = spot_clause; seconds = n; third = spot_expression; thirds = 0 })
-  unfolding child_spots
-  runs_case e = rw (append-nil, en) (below_case (row_of (tag_of w)).children spot (tag_of w) (n_of w) (sym kind_is ∙ e))
+  pub runs_clause : of_clause ≡ (row_of t).children → RunsOf spot w (record { first = spot_pattern; firsts = 1; second = spot_guard; seconds = 1; third = spot_expression; thirds = 1 })
+  unfolding spots_below
+  runs_clause e = below_is of_clause e
 
-  pub runs_receive : g ≡ kind_receive → (r : Spots) → r ≡ one_run spot_clause n → RunsOf spot w r
-  unfolding child_spots
-  runs_receive e r er = rw (er, append-nil, en) (below_receive (row_of (tag_of w)).children spot (tag_of w) (n_of w) (sym kind_is ∙ e))
+  pub runs_case : of_case ≡ (row_of t).children → RunsOf spot w (record { first = spot_expression; firsts = 1; second = spot_clause; seconds = n; third = spot_expression; thirds = 0 })
+  unfolding spots_below
+  runs_case e = rw append-nil (below_is of_case e)
 
-  pub runs_body : g ≡ kind_body → (r : Spots) → r ≡ one_run spot_expression 1 → RunsOf spot w r
-  unfolding child_spots
-  runs_body e r er = rw er (below_body (row_of (tag_of w)).children spot (tag_of w) (n_of w) (sym kind_is ∙ e))
+  pub runs_receive : of_receive ≡ (row_of t).children → (r : Spots) → r ≡ one_run spot_clause n → RunsOf spot w r
+  unfolding spots_below
+  runs_receive e r er = rw (er, append-nil) (below_is of_receive e)
 
-  pub runs_alike : ¬ (g ≡ kind_clause) → ¬ (g ≡ kind_case) → ¬ (g ≡ kind_receive) → ¬ (g ≡ kind_body) → (o : ℕ) → o ≡ own_spot spot t → (r : Spots) → r ≡ one_run o n → RunsOf spot w r
-  unfolding child_spots
-  runs_alike a b c d o eo r er =
-      rw (er, append-nil, en, eo, et) (
-      below_alike (row_of (tag_of w)).children spot (tag_of w) (n_of w)
-      (λ i. a (kind_is ∙ i)) (λ i. b (kind_is ∙ i)) (λ i. c (kind_is ∙ i)) (λ i. d (kind_is ∙ i)))
+  pub runs_body : body ≡ (row_of t).children → (r : Spots) → r ≡ one_run spot_expression 1 → RunsOf spot w r
+  unfolding spots_below
+  runs_body e r er = rw (er, append-nil) (below_is body e)
+
+  pub runs_alike : alike ≡ (row_of t).children → (o : ℕ) → o ≡ own_spot spot t → (r : Spots) → r ≡ one_run o n → RunsOf spot w r
+  unfolding spots_below
+  runs_alike e o eo r er = rw (er, append-nil, eo) (below_is alike e)

@@ -1,30 +1,29 @@
 -- What the code's reading for shape promises.
-use Rattle.std.specs.Prelude.{ℕ, ◌≤◌, ◌<◌, ◌≡◌, true, List, ◌++◌, length, get_or, drop, replicate}
+use Rattle.std.specs.Prelude.{ℕ, ◌≤◌, ◌<◌, ◌≡◌, true, List, ◌++◌, length, get_or, drop, replicate, Result, Ok, Err}
 use Rattle.std.proofs.Math.Option.{Option, some}
-use Rattle.shape.specs.declared.shape.Run.{Run}
-use Rattle.shape.specs.declared.shape.Run.TheVariants as run
+use Rattle.rows.specs.declared.terms.BadWord.{BadWord}
+use Rattle.rows.specs.declared.terms.Run.{Run}
+use Rattle.rows.specs.declared.terms.Run.TheVariants.{Ends, Turns}
 use Rattle.shape.specs.declared.shape.Spots.{Spots}
-use Rattle.shape.specs.declared.shape.Reading.{Reading}
-use Rattle.shape.specs.declared.shape.Reading.TheVariants.{Ends, Fails}
 use Rattle.term.specs.Words.{tag_of, n_of, k_of, tag_atom, tag_integer, tag_nil, tag_cons}
 use Rattle.term.specs.Table.{fits, child_spots, spot_expression}
 use Rattle.term.specs.Shape.{shape}
 
 -- what shape comes to after a reading: that of the other spots from its end on, or the word that failed
-unfoldable pub onward : (places : ℕ) (new l others : List ℕ) → Reading → Option ℕ
-onward places new l others (Ends a) = shape places new (drop a l) others a
-onward places new l others (Fails p) = some p
+unfoldable pub onward : (places : ℕ) (new l others : List ℕ) → Result ℕ BadWord → Option ℕ
+onward places new l others (Ok a) = shape places new (drop a l) others a
+onward places new l others (Err bad) = some bad.0
 
-unfoldable pub NoLess : ℕ → Reading → Type 0
-NoLess at (Ends a) = at ≤ a
-NoLess at (Fails p) = at ≤ p
+unfoldable pub NoLess : ℕ → Result ℕ BadWord → Type 0
+NoLess at (Ok a) = at ≤ a
+NoLess at (Err bad) = at ≤ bad.0
 
-unfoldable pub Further : ℕ → Reading → Type 0
-Further at (Ends a) = at < a
-Further at (Fails p) = Unit {0}
+unfoldable pub Further : ℕ → Result ℕ BadWord → Type 0
+Further at (Ok a) = at < a
+Further at (Err bad) = Unit {0}
 
 -- r answers for so many terms at a spot from `at` on, whatever waits after them
-pub record Reads (places : ℕ) (l : List ℕ) (at spot times : ℕ) (r : Reading) : Type 0 where
+pub record Reads (places : ℕ) (l : List ℕ) (at spot times : ℕ) (r : Result ℕ BadWord) : Type 0 where
   pub answer : (new others : List ℕ) → shape places new (drop at l) (replicate times spot ++ others) at ≡ onward places new l others r
   pub no_less : NoLess at r
   pub further : ¬ (times ≡ 0) → Further at r
@@ -64,7 +63,7 @@ pub record Turned (places : ℕ) (l : List ℕ) (at spot times a left : ℕ) : T
   pub node : ¬ (tag_of (get_or l a 0) ≡ tag_integer)
 
 -- r answers for so many terms at a spot from `at` on, or says where one of them is to be read otherwise
-unfoldable pub ReadsAlike : (places : ℕ) (l : List ℕ) (at spot times : ℕ) → Run → Type 0
-ReadsAlike places l at spot times (run.Ends a) = Reads places l at spot times (Ends a)
-ReadsAlike places l at spot times (run.Fails p) = Reads places l at spot times (Fails p)
-ReadsAlike places l at spot times (run.Turns a left) = Turned places l at spot times a left
+unfoldable pub ReadsAlike : (places : ℕ) (l : List ℕ) (at spot times : ℕ) → Result Run BadWord → Type 0
+ReadsAlike places l at spot times (Ok (Ends a)) = Reads places l at spot times (Ok a)
+ReadsAlike places l at spot times (Ok (Turns ahead)) = Turned places l at spot times ahead.at ahead.owed
+ReadsAlike places l at spot times (Err bad) = Reads places l at spot times (Err bad)

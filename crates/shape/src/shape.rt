@@ -5,12 +5,13 @@ ghost use Rattle.term.specs.Words.{n_of};
 ghost use Rattle.term.specs.Table.{child_spots, row_of, tags_at, k_limit, fits, own_spot, spot_guard};
 ghost use Rattle.shape.specs.Reading.{Common, Reads, ReadsAlike, RunsOf, ValueWord, one_run};
 
-use rows::tables::{ALIKE, BODY, OF_CASE, OF_CLAUSE, OF_RECEIVE, below, greatest, least, limit};
+use rows::tables::{ChildKind, below, greatest, least, limit};
+use rows::terms::{Ahead, BadWord, Run, Runs};
 use rows::words::{
     ATOM, CALL, CHECK, CLAUSE, FUNCTION, INTEGER, NIL, PID, TUPLE, VARIABLE, k, n, tag,
 };
 
-// The spots where a term stands.
+// The spots where a term stands: numbers, since `stands` and `read` answer for every number.
 pub const FUNCTION_SPOT: usize = 0;
 
 pub const EXPRESSION: usize = 1;
@@ -32,14 +33,11 @@ const FIRST_ATOM: u32 = 0x02000000;
 
 const LAST_ATOM: u32 = 0x020000FF;
 
-// Whether a tag lies between two others.
+// Whether a tag lies between two others. `n_fits` and the copying crate's `of_value` write the two tests out: a call would be no plainer.
 pub fn between(low: u32, tag: u32, high: u32) -> bool
     ensures { result ≡ (leb low tag && leb tag high) }
 {
-    if tag < low {
-        return false;
-    }
-    tag <= high
+    low <= tag && tag <= high
 }
 
 // Whether a tag may stand at a guard; a control's guard, where there are places, holds values too.
@@ -52,58 +50,36 @@ pub fn stands_in_guard(places: u32, tag: u32) -> bool
     if places != 0 {
         return between(VARIABLE, tag, TUPLE);
     }
-    if tag == PID {
-        return false;
-    }
-    between(VARIABLE, tag, NIL)
+    tag != PID && between(VARIABLE, tag, NIL)
 }
 
 // Whether a tag may stand at a spot.
 pub fn stands(places: u32, spot: usize, tag: u32) -> bool
     ensures { result ≡ member tag (tags_at places spot) }
 {
-    if spot == EXPRESSION {
-        return between(VARIABLE, tag, CHECK);
+    match spot {
+        EXPRESSION => between(VARIABLE, tag, CHECK),
+        VALUE => between(ATOM, tag, TUPLE),
+        PATTERN => tag != PID && between(VARIABLE, tag, TUPLE),
+        GUARD => stands_in_guard(places, tag),
+        CLAUSE_SPOT => tag == CLAUSE,
+        FUNCTION_SPOT => tag == FUNCTION,
+        _ => false,
     }
-    if spot == VALUE {
-        return between(ATOM, tag, TUPLE);
-    }
-    if spot == PATTERN {
-        if tag == PID {
-            return false;
-        }
-        return between(VARIABLE, tag, TUPLE);
-    }
-    if spot == GUARD {
-        return stands_in_guard(places, tag);
-    }
-    if spot == CLAUSE_SPOT {
-        return tag == CLAUSE;
-    }
-    if spot == FUNCTION_SPOT {
-        return tag == FUNCTION;
-    }
-    false
 }
 
 // How many k a tag has; a pid's are the places.
 pub fn k_limit(places: u32, tag: u32) -> u32
     ensures { result ≡ k_limit places tag }
 {
-    if tag == PID {
-        return places;
-    }
-    limit(tag)
+    if tag == PID { places } else { limit(tag) }
 }
 
 // Whether a word of this tag may have this n.
 pub fn n_fits(tag: u32, n: u32) -> bool
     ensures { result ≡ (leb (row_of tag).least n && leb n (row_of tag).greatest) }
 {
-    if n < least(tag) {
-        return false;
-    }
-    n <= greatest(tag)
+    least(tag) <= n && n <= greatest(tag)
 }
 
 // Whether a word may stand at a spot; there are so many places.
@@ -111,16 +87,11 @@ pub fn may_stand(places: u32, spot: usize, w: u32) -> bool
     ensures { result ≡ fits places spot w }
 {
     let t = tag(w);
-    if !stands(places, spot, t) {
-        return false;
-    }
-    if !n_fits(t, n(w)) {
-        return false;
-    }
-    k(w) < k_limit(places, t)
+    stands(places, spot, t) && n_fits(t, n(w)) && k(w) < k_limit(places, t)
 }
 
-// The spots of a word's children, in three runs of one spot each.
+// The spots of a word's children, in three runs of one spot each. They have names and are no array: `read` recurs on each in turn, and
+// has no loop beside its recursion.
 #[derive(Clone, Copy)]
 pub struct Spots {
     pub first: usize,
@@ -135,13 +106,11 @@ pub struct Spots {
 pub fn own_spot(spot: usize, tag: u32) -> usize
     ensures { result ≡ own_spot spot tag }
 {
-    if spot != GUARD {
-        return spot;
+    if spot == GUARD && tag != CALL {
+        VALUE
+    } else {
+        spot
     }
-    if tag == CALL {
-        return spot;
-    }
-    VALUE
 }
 
 // One run alone.
@@ -164,34 +133,27 @@ pub fn runs(spot: usize, w: u32) -> Spots
 {
     let times = n(w) as usize;
     let t = tag(w);
-    let kind = below(t);
-    if kind == OF_CLAUSE {
-        return Spots {
+    match below(t) {
+        ChildKind::OfClause => Spots {
             first: PATTERN,
             firsts: 1,
             second: GUARD,
             seconds: 1,
             third: EXPRESSION,
             thirds: 1,
-        };
-    }
-    if kind == OF_CASE {
-        return Spots {
+        },
+        ChildKind::OfCase => Spots {
             first: EXPRESSION,
             firsts: 1,
             second: CLAUSE_SPOT,
             seconds: times,
             third: EXPRESSION,
             thirds: 0,
-        };
+        },
+        ChildKind::OfReceive => one_run(CLAUSE_SPOT, times),
+        ChildKind::Body => one_run(EXPRESSION, 1),
+        ChildKind::Alike => one_run(own_spot(spot, t), times),
     }
-    if kind == OF_RECEIVE {
-        return one_run(CLAUSE_SPOT, times);
-    }
-    if kind == BODY {
-        return one_run(EXPRESSION, 1);
-    }
-    one_run(own_spot(spot, t), times)
 }
 
 // Whether the children of a word, n of them, stand at its own spot.
@@ -199,126 +161,82 @@ pub fn alike(spot: usize, w: u32) -> bool
     ensures { result ≡ true → child_spots spot w ≡ replicate (n_of w) spot }
 {
     let t = tag(w);
-    if below(t) != ALIKE {
+    let ChildKind::Alike = below(t) else {
         return false;
-    }
-    if n(w) == 0 {
-        return true;
-    }
-    own_spot(spot, t) == spot
+    };
+    n(w) == 0 || own_spot(spot, t) == spot
 }
 
 // Cons, nil or an atom: the words of which most values are made.
 pub fn value_word(w: u32) -> bool
     ensures { result ≡ true → ValueWord w }
 {
-    if w == CONS_WORD {
-        return true;
-    }
-    if w == NIL_WORD {
-        return true;
-    }
-    if w < FIRST_ATOM {
-        return false;
-    }
-    w <= LAST_ATOM
+    matches!(w, CONS_WORD | NIL_WORD | FIRST_ATOM..=LAST_ATOM)
 }
 
 // Whether a word is one of those of which most values are made, cons, an atom or nil, at a spot that takes them: so told at once.
 pub fn common(spot: usize, w: u32) -> bool
     ensures { result ≡ true → Common spot w }
 {
-    if spot == EXPRESSION {
-        return value_word(w);
+    match spot {
+        EXPRESSION | VALUE | PATTERN => value_word(w),
+        _ => false,
     }
-    if spot == VALUE {
-        return value_word(w);
-    }
-    if spot == PATTERN {
-        return value_word(w);
-    }
-    false
-}
-
-// Where words end whose children stand at their own spot, or the first that fails, or one with other children: so many terms are to come from it on.
-#[derive(Clone, Copy)]
-pub enum Run {
-    Ends(usize),
-    Fails(usize),
-    Turns(usize, usize),
 }
 
 // Reads so many terms at a spot, from a position on, as far as the children stand at that spot too.
-pub fn read_alike(row: &[u32], places: u32, at: usize, spot: usize, times: usize) -> Run
+pub fn read_alike(row: &[u32], places: u32, at: usize, spot: usize, times: usize) -> Runs
     ensures { ReadsAlike places row.now at spot times result }
 {
     let mut a = at;
     let mut left = times;
     while 0 < left {
         if row.len() <= a {
-            return Run::Fails(a);
+            return Err(BadWord(a));
         }
         let w = row[a];
-        if common(spot, w) {
-            if left <= row.len() {
-                a += 1;
-                left = left - 1 + n(w) as usize;
-                continue;
-            }
+        if common(spot, w) && left <= row.len() {
+            a += 1;
+            left = left - 1 + n(w) as usize;
+            continue;
         }
         if !may_stand(places, spot, w) {
-            return Run::Fails(a);
+            return Err(BadWord(a));
         }
         if tag(w) == INTEGER {
             if row.len() - a < 2 {
-                return Run::Fails(a + 1);
+                return Err(BadWord(a + 1));
             }
             a += 2;
             left -= 1;
             continue;
         }
-        if !alike(spot, w) {
-            return Run::Turns(a, left);
-        }
-        if row.len() < left {
-            return Run::Turns(a, left);
+        if !alike(spot, w) || row.len() < left {
+            return Ok(Run::Turns(Ahead { at: a, owed: left }));
         }
         a += 1;
         left = left - 1 + n(w) as usize;
     }
-    Run::Ends(a)
+    Ok(Run::Ends(a))
 }
 
-// Where reading ends, or the first word at which it fails.
-#[derive(Clone, Copy)]
-pub enum Reading {
-    Ends(usize),
-    Fails(usize),
-}
-
-// Reads so many terms at a spot, from a position on; there are so many places.
-pub fn read(row: &[u32], places: u32, at: usize, spot: usize, times: usize) -> Reading
+// Reads so many terms at a spot, from a position on, and says where they end; there are so many places.
+pub fn read(
+    row: &[u32],
+    places: u32,
+    at: usize,
+    spot: usize,
+    times: usize,
+) -> Result<usize, BadWord>
     ensures { Reads places row.now at spot times result }
 {
-    let run = read_alike(row, places, at, spot, times);
-    match run {
-        Run::Ends(a) => Reading::Ends(a),
-        Run::Fails(p) => Reading::Fails(p),
-        Run::Turns(turn, left) => {
-            let r = runs(spot, row[turn]);
-            let first = read(row, places, turn + 1, r.first, r.firsts);
-            let Reading::Ends(a) = first else {
-                return first;
-            };
-            let second = read(row, places, a, r.second, r.seconds);
-            let Reading::Ends(b) = second else {
-                return second;
-            };
-            let third = read(row, places, b, r.third, r.thirds);
-            let Reading::Ends(c) = third else {
-                return third;
-            };
-            read(row, places, c, spot, left - 1)
-        }
-    }
+    let turn = match read_alike(row, places, at, spot, times)? {
+        Run::Ends(a) => return Ok(a),
+        Run::Turns(turn) => turn,
+    };
+    let r = runs(spot, row[turn.at]);
+    let a = read(row, places, turn.at + 1, r.first, r.firsts)?;
+    let b = read(row, places, a, r.second, r.seconds)?;
+    let c = read(row, places, b, r.third, r.thirds)?;
+    read(row, places, c, spot, turn.owed - 1)
 }

@@ -1,4 +1,5 @@
 -- The tests of slots decide the clauses of soundness about shapes and births.
+pub mod Chunks
 pub mod SoundTestWalk
 pub mod SoundTestShape
 pub mod SoundTestBirths

@@ -1,14 +1,13 @@
 -- The table of targets: what the code answers for a slot, for the slots of a place and for all places.
-use Prim.Native.Nat.{ℕ, ◌+◌, ◌-◌, ◌*◌, ◌≤◌, ◌<◌}
+use Prim.Native.Nat.{ℕ, ◌+◌, ◌-◌, ◌≤◌, ◌<◌}
 use mathlib.Core.Path.{◌≡◌, refl, sym, ◌∙◌, ap, subst}
-use mathlib.Core.Bool.{Bool, true, false, cond, not}
+use mathlib.Core.Bool.{Bool, true, false, cond}
 use mathlib.Core.Option.{Option, none, some}
-use mathlib.Core.List.{List}
+use mathlib.Core.List.{List, [], ◌∷◌}
 use native.Mathlib.Omega.{arith}
 use lib.ListN.{length, take, drop, get_or, set, get_or-eq_default}
 use Rattle.lists.specs.Lists.{All}
-use Rattle.lists.proofs.Tests.{eqb_of, eqb_apart, cond_true, cond_false, not_true, not_false}
-use Rattle.lists.proofs.Blocks.{chop}
+use Rattle.lists.proofs.Tests.{eqb_of, eqb_apart, cond_true, cond_false}
 use Rattle.term.specs.Read.{term_of}
 use Rattle.machine.specs.Work.{Work, finished, stuck, to_seq, to_send, to_receive, to_spawn, to_self, to_check, work}
 use Rattle.step.specs.Controls.{doing_of, DoingOf}
@@ -19,7 +18,7 @@ use Rattle.slots.specs.SoundTests.{control_in, answered, and_then}
 use Rattle.slots.specs.SendTests.{target_of, sent_to, sent_of, SendReady, SentIs, note_next, note_slots, entry_slots, note_from, NotesPlace, NotesPlaces}
 use Rattle.slots.specs.declared.sound_sends.Sent.{Sent}
 use Rattle.slots.specs.declared.sound_sends.Sent.TheVariants.{No, To, Bad}
-use Rattle.slots.proofs.SoundTestWalk.{first_in, others_long, chop_first, behind, each_first, each_next}
+use Rattle.lists.proofs.All.{all_head, all_tail}
 
 -- ---- one slot
 
@@ -101,50 +100,40 @@ module _ (live : List Bool) (w : List ℕ) where
 -- ---- the slots of a place
 
 -- what is noted and what is left to note make the whole
-pub record Noting (live : List Bool) (size count at : ℕ) (block targets₀ : List ℕ) (left k : ℕ) (t targets : List ℕ) : Type 0 where
-  pub ready : (module' : List ℕ) → All (SendReady module') (entry_slots size count block) → All (SendReady module') (chop left size t)
-  pub same : (module' : List ℕ) → All (SendReady module') (entry_slots size count block) → note_slots module' live (entry_slots size count block) at targets₀ ≡ note_slots module' live (chop left size t) k targets
+pub record Noting (live : List Bool) (all : List (List ℕ)) (at : ℕ) (targets₀ : List ℕ) (k : ℕ) (targets : List ℕ) (slots : List (List ℕ)) : Type 0 where
+  pub ready : (module' : List ℕ) → All (SendReady module') all → All (SendReady module') slots
+  pub same : (module' : List ℕ) → All (SendReady module') all → note_slots module' live all at targets₀ ≡ note_slots module' live slots k targets
 
-module _ (live : List Bool) (size count at : ℕ) (block targets₀ : List ℕ) where
-  pub noting_start : Noting live size count at block targets₀ count at (take (length block - size) (drop size block)) targets₀
-  noting_start = record {
-    ready = λ module' r. subst (λ (l : List ℕ). All (SendReady module') (chop count size l)) (sym (behind size block)) r;
-    same = λ module' r. ap (λ (l : List ℕ). note_slots module' live (chop count size l) at targets₀) (sym (behind size block));
-  }
+module _ (live : List Bool) (all : List (List ℕ)) (at : ℕ) (targets₀ : List ℕ) where
+  pub noting_start : Noting live all at targets₀ at targets₀ all
+  noting_start = record { ready = λ module' r. r; same = λ module' r. refl }
 
-  module _ (left k : ℕ) (t targets : List ℕ) (n : Noting live size count at block targets₀ left k t targets) where
-    module _ (r : Sent) (x : SentIs live (take size t) r) (some' : 0 < left) where
-      abbrev rest : List (List ℕ)
-      rest = chop (left - 1) size (drop size t)
+  module _ (k : ℕ) (targets : List ℕ) where
+    module _ (w : List ℕ) (ws : List (List ℕ)) (n : Noting live all at targets₀ k targets (w ∷ ws)) (r : Sent) (x : SentIs live w r) where
+      others : (module' : List ℕ) → All (SendReady module') all → All (SendReady module') ws
+      others module' ready = all_tail (SendReady module') w ws (n.ready module' ready)
 
-      first : (module' : List ℕ) → All (SendReady module') (entry_slots size count block) → note_slots module' live (entry_slots size count block) at targets₀ ≡ note_next r (note_slots module' live rest) k targets
+      first : (module' : List ℕ) → All (SendReady module') all → note_slots module' live all at targets₀ ≡ note_next r (note_slots module' live ws) k targets
       unfolding note_slots
       first module' ready =
           n.same module' ready
-          ∙ ap (λ (ws : List (List ℕ)). note_slots module' live ws k targets) (chop_first left size t some')
-          ∙ ap (λ (s : Sent). note_next s (note_slots module' live rest) k targets) (sym (x.same module' (each_first (SendReady module') left size t (n.ready module' ready) some')))
+          ∙ ap (λ (s : Sent). note_next s (note_slots module' live ws) k targets) (sym (x.same module' (all_head (SendReady module') w ws (n.ready module' ready))))
 
-      pub noting_none : r ≡ No → Noting live size count at block targets₀ (left - 1) k (take (length t - size) (drop size t)) targets
+      pub noting_none : r ≡ No → Noting live all at targets₀ k targets ws
       unfolding note_next
-      noting_none e = record {
-        ready = λ module' ready. each_next (SendReady module') left size t (n.ready module' ready) some';
-        same = λ module' ready. first module' ready ∙ ap (λ (s : Sent). note_next s (note_slots module' live rest) k targets) e ∙ ap (λ (l : List ℕ). note_slots module' live (chop (left - 1) size l) k targets) (sym (behind size t));
-      }
+      noting_none e = record { ready = others; same = λ module' ready. first module' ready ∙ ap (λ (s : Sent). note_next s (note_slots module' live ws) k targets) e }
 
-      pub noting_one : (target : ℕ) → r ≡ To target → Noting live size count at block targets₀ (left - 1) (k + 1) (take (length t - size) (drop size t)) (set targets k (target + 1))
+      pub noting_one : (target : ℕ) → r ≡ To target → Noting live all at targets₀ (k + 1) (set targets k (target + 1)) ws
       unfolding note_next
-      noting_one target e = record {
-        ready = λ module' ready. each_next (SendReady module') left size t (n.ready module' ready) some';
-        same = λ module' ready. first module' ready ∙ ap (λ (s : Sent). note_next s (note_slots module' live rest) k targets) e ∙ ap (λ (l : List ℕ). note_slots module' live (chop (left - 1) size l) (k + 1) (set targets k (target + 1))) (sym (behind size t));
-      }
+      noting_one target e = record { ready = others; same = λ module' ready. first module' ready ∙ ap (λ (s : Sent). note_next s (note_slots module' live ws) k targets) e }
 
-      pub noting_bad : (after : List ℕ) → r ≡ Bad → NotesPlace live size count at block targets₀ after false
-      unfolding note_next answered
-      noting_bad after e = record { same = λ module' ready. sym (first module' ready ∙ ap (λ (s : Sent). note_next s (note_slots module' live rest) k targets) e) }
+      pub noting_bad : (module' : List ℕ) → All (SendReady module') all → r ≡ Bad → none ≡ note_slots module' live all at targets₀
+      unfolding note_next
+      noting_bad module' ready e = sym (first module' ready ∙ ap (λ (s : Sent). note_next s (note_slots module' live ws) k targets) e)
 
-    pub noting_done : left ≤ 0 → NotesPlace live size count at block targets₀ targets true
-    unfolding note_slots answered chop
-    noting_done h = record { same = λ module' ready. sym (n.same module' ready ∙ (let none_left : left ≡ 0 = omega arith in ap (λ (m : ℕ). note_slots module' live (chop m size t) k targets) none_left)) }
+    pub noting_done : Noting live all at targets₀ k targets [] → (module' : List ℕ) → All (SendReady module') all → some targets ≡ note_slots module' live all at targets₀
+    unfolding note_slots
+    noting_done n module' ready = sym (n.same module' ready)
 
 -- ---- all places
 
@@ -152,45 +141,34 @@ module _ (live : List Bool) (size count at : ℕ) (block targets₀ : List ℕ) 
 abbrev pub BlockReady : List ℕ → ℕ → ℕ → List ℕ → Type 0
 BlockReady module' size count b = All (SendReady module') (entry_slots size count b)
 
-pub record NotingFrom (live : List Bool) (size count : ℕ) (blocks : List (List ℕ)) (targets₀ : List ℕ) (len left at : ℕ) (t targets : List ℕ) : Type 0 where
-  pub ready : (module' : List ℕ) → All (BlockReady module' size count) blocks → All (BlockReady module' size count) (chop left len t)
-  pub same : (module' : List ℕ) → All (BlockReady module' size count) blocks → note_from module' live size count 0 blocks targets₀ ≡ note_from module' live size count at (chop left len t) targets
+pub record NotingFrom (live : List Bool) (size count : ℕ) (all : List (List ℕ)) (targets₀ : List ℕ) (at : ℕ) (targets : List ℕ) (blocks : List (List ℕ)) : Type 0 where
+  pub ready : (module' : List ℕ) → All (BlockReady module' size count) all → All (BlockReady module' size count) blocks
+  pub same : (module' : List ℕ) → All (BlockReady module' size count) all → note_from module' live size count 0 all targets₀ ≡ note_from module' live size count at blocks targets
 
-module _ (live : List Bool) (size count len places : ℕ) (words targets₀ : List ℕ) where
-  pub from_start : NotingFrom live size count (chop places len words) targets₀ len places 0 words targets₀
+module _ (live : List Bool) (size count : ℕ) (all : List (List ℕ)) (targets₀ : List ℕ) where
+  pub from_start : NotingFrom live size count all targets₀ 0 targets₀ all
   from_start = record { ready = λ module' r. r; same = λ module' r. refl }
 
-  module _ (left at : ℕ) (t targets : List ℕ) (n : NotingFrom live size count (chop places len words) targets₀ len left at t targets) where
-    module _ (r : Bool) (after : List ℕ) (x : NotesPlace live size count at (take len t) targets after r) (some' : 0 < left) where
-      abbrev more : List (List ℕ)
-      more = chop (left - 1) len (drop len t)
-
-      here : (module' : List ℕ) → All (BlockReady module' size count) (chop places len words)
-          → note_from module' live size count 0 (chop places len words) targets₀ ≡ and_then (answered r after) (note_from module' live size count (at + count) more)
+  module _ (at : ℕ) (targets : List ℕ) where
+    module _ (b : List ℕ) (bs : List (List ℕ)) (n : NotingFrom live size count all targets₀ at targets (b ∷ bs)) (r : Bool) (after : List ℕ) (x : NotesPlace live size count at b targets after r) where
+      here : (module' : List ℕ) → All (BlockReady module' size count) all
+          → note_from module' live size count 0 all targets₀ ≡ and_then (answered r after) (note_from module' live size count (at + count) bs)
       unfolding note_from
       here module' ready =
           n.same module' ready
-          ∙ ap (λ (bs : List (List ℕ)). note_from module' live size count at bs targets) (chop_first left len t some')
-          ∙ ap (λ (o : Option (List ℕ)). and_then o (note_from module' live size count (at + count) more)) (sym (x.same module' (each_first (BlockReady module' size count) left len t (n.ready module' ready) some')))
+          ∙ ap (λ (o : Option (List ℕ)). and_then o (note_from module' live size count (at + count) bs)) (sym (x.same module' (all_head (BlockReady module' size count) b bs (n.ready module' ready))))
 
-      pub from_next : not r ≡ false → NotingFrom live size count (chop places len words) targets₀ len (left - 1) (at + count) (take (length t - len) (drop len t)) after
+      pub from_next : r ≡ true → NotingFrom live size count all targets₀ (at + count) after bs
       unfolding and_then answered
       from_next e = record {
-        ready = λ module' ready. each_next (BlockReady module' size count) left len t (n.ready module' ready) some';
-        same = λ module' ready. here module' ready ∙ ap (λ (b : Bool). and_then (answered b after) (note_from module' live size count (at + count) more)) (not_false r e) ∙ ap (λ (l : List ℕ). note_from module' live size count (at + count) (chop (left - 1) len l) after) (sym (behind len t));
+        ready = λ module' ready. all_tail (BlockReady module' size count) b bs (n.ready module' ready);
+        same = λ module' ready. here module' ready ∙ ap (λ (b : Bool). and_then (answered b after) (note_from module' live size count (at + count) bs)) e;
       }
 
-      pub from_bad : (last : List ℕ) → not r ≡ true → NotesPlaces live size count (chop places len words) targets₀ last false
+      pub from_bad : (last : List ℕ) → r ≡ false → NotesPlaces live size count all targets₀ last false
       unfolding and_then answered
-      from_bad last e = record { same = λ module' ready. sym (here module' ready ∙ ap (λ (b : Bool). and_then (answered b after) (note_from module' live size count (at + count) more)) (not_true r e)) }
+      from_bad last e = record { same = λ module' ready. sym (here module' ready ∙ ap (λ (b : Bool). and_then (answered b after) (note_from module' live size count (at + count) bs)) e) }
 
-    pub from_done : left ≤ 0 → NotesPlaces live size count (chop places len words) targets₀ targets true
-    unfolding note_from answered chop
-    from_done h = record { same = λ module' ready. sym (n.same module' ready ∙ (let none_left : left ≡ 0 = omega arith in ap (λ (m : ℕ). note_from module' live size count at (chop m len t) targets) none_left)) }
-
--- the row of a place ends within the table
-pub row_in : (at left count n : ℕ) → at + left * count ≤ n → 0 < left → at + count ≤ n
-row_in at left count n h some' = omega (arith, first_in left count (left * count) refl some')
-
-pub row_next : (at left count n : ℕ) → at + left * count ≡ n → 0 < left → at + count + (left - 1) * count ≡ n
-row_next at left count n e some' = omega (arith, first_in left count (left * count) refl some', others_long left count (left * count) refl some')
+    pub from_done : NotingFrom live size count all targets₀ at targets [] → NotesPlaces live size count all targets₀ targets true
+    unfolding note_from answered
+    from_done n = record { same = λ module' ready. sym (n.same module' ready) }

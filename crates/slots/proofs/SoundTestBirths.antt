@@ -1,20 +1,18 @@
 -- The marks of births: what the code answers for a child and for a slot.
-use Prim.Native.Nat.{ℕ, ◌+◌, ◌-◌, ◌≤◌, ◌<◌}
+use Prim.Native.Nat.{ℕ, ◌+◌, ◌≤◌, ◌<◌}
 use mathlib.Core.Path.{◌≡◌, sym, ◌∙◌, ap, subst}
 use mathlib.Core.Bool.{Bool, true, false, cond, not}
 use mathlib.Core.Option.{none, some}
-use mathlib.Core.List.{List}
+use mathlib.Core.List.{List, [], ◌∷◌}
 use native.Mathlib.Decide.{ℕ_discrete}
 use native.Mathlib.Omega.{arith}
 use lib.Dec.{eqb}
-use lib.ListN.{length, take, drop, get_or, set, replicate}
+use lib.ListN.{length, get_or, set, replicate}
 use Rattle.lists.proofs.Tests.{eqb_of, eqb_apart, ltb_of, ltb_over, cond_true, cond_false, true_not_false, not_true, not_false, none_not_some, some_injective}
 use Rattle.lists.specs.Decides.{Decides}
 use Rattle.lists.proofs.Decides.{no_to, by}
-use Rattle.lists.proofs.Blocks.{chop}
 use Rattle.store.specs.Layout.{kind_free, kind_spawn}
 use Rattle.slots.specs.SoundTests.{AllBorn, Births, live_from, answered, run_all, bear_one, bear_slot, bear_place}
-use Rattle.slots.proofs.SoundTestWalk.{chop_first, behind, below_take}
 
 module _ (child : ℕ) (live born : List Bool) where
   pub bear_zero : (x : List Bool) → child ≡ 0 → answered false x ≡ bear_one child live born
@@ -82,14 +80,12 @@ module _ (size count : ℕ) (live : List Bool) (blocks : List (List ℕ)) (x : L
 
 -- ---- which places have a process
 
-module _ (p len left : ℕ) (t : List ℕ) (live whole : List Bool) (so_far : whole ≡ live_from p (chop left len t) live) where
-  pub live_next : 1 ≤ len → 0 < left → whole ≡ live_from (p + 1) (chop (left - 1) len (take (length t - len) (drop len t))) (set live p (not (eqb (get_or t 0 0) kind_free)))
+module _ (s : ℕ) (live whole : List Bool) where
+  -- a block more, at place p
+  pub live_next : (t p : ℕ) (b : List ℕ) (others : List (List ℕ)) → p ≡ s → t ≡ s + 1 → whole ≡ live_from s (b ∷ others) live → whole ≡ live_from t others (set live p (not (eqb (get_or b 0 0) kind_free)))
   unfolding live_from
-  live_next h some' =
-      so_far
-      ∙ ap (λ (bs : List (List ℕ)). live_from p bs live) (chop_first left len t some')
-      ∙ (λ i. live_from (p + 1) (chop (left - 1) len (sym (behind len t) i)) (set live p (not (eqb (below_take len 0 t h i) kind_free))))
+  live_next t p b others ep et e = e ∙ (λ i. live_from (sym et i) others (set live (sym ep i) (not (eqb (get_or b 0 0) kind_free))))
 
-  pub live_done : left ≤ 0 → live ≡ whole
-  unfolding chop live_from
-  live_done h = let none_left : left ≡ 0 = omega arith in sym (so_far ∙ ap (λ (n : ℕ). live_from p (chop n len t) live) none_left)
+  pub live_done : whole ≡ live_from s [] live → live ≡ whole
+  unfolding live_from
+  live_done e = sym e

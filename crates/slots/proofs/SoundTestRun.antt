@@ -1,18 +1,16 @@
 -- Loops that take a step for each element and leave where one refuses: where they stand, how they go on and how they end.
-use Prim.Native.Nat.{ℕ, suc, ◌+◌, ◌-◌, ◌≤◌, ◌<◌}
+use Prim.Native.Nat.{ℕ, suc, ◌+◌, ◌≤◌, ◌<◌}
 use mathlib.Core.Path.{◌≡◌, refl, sym, ◌∙◌, ap}
 use mathlib.Core.Bool.{Bool, true, false, not, ◌&&◌}
 use mathlib.Core.Option.{Option, none}
 use mathlib.Core.List.{List, [], ◌∷◌}
 use native.Mathlib.Omega.{arith}
-use lib.ListN.{length, take, drop, get_or, drop_of_length-le}
+use lib.ListN.{length, drop, get_or, drop_of_length-le}
 use lib.Seq.{drop-cons}
 use Rattle.lists.specs.Lists.{All}
 use Rattle.lists.specs.Decides.{Decides}
 use Rattle.lists.proofs.Tests.{and_left, and_right, and_of, not_true, not_false}
-use Rattle.lists.proofs.Blocks.{chop}
 use Rattle.slots.specs.SoundTests.{answered, and_then, run_all, every_of}
-use Rattle.slots.proofs.SoundTestWalk.{chop_first, behind}
 
 module _ {A B : Type 0} (f : B → A → Option A) where
   -- a step that is taken, and one that is refused
@@ -24,26 +22,13 @@ module _ {A B : Type 0} (f : B → A → Option A) where
   unfolding run_all and_then answered
   run_no b bs x y r e t = ap (λ (o : Option A). and_then o (run_all f bs)) (sym e ∙ ap (λ (q : Bool). answered q y) t)
 
+  pub run_out : (b : B) (bs : List B) (x y z : A) (r : Bool) → answered r y ≡ f b x → r ≡ false → run_all f (b ∷ bs) x ≡ answered false z
+  unfolding answered
+  run_out b bs x y z r e t = run_no b bs x y r e t
+
   pub run_done : (x : A) → answered true x ≡ run_all f [] x
   unfolding run_all answered
   run_done x = refl
-
--- over slots of one size
-module _ {A : Type 0} (f : List ℕ → A → Option A) (whole : Option A) (size left : ℕ) (t : List ℕ) (x : A) (so_far : whole ≡ run_all f (chop left size t) x) where
-  pub slots_yes : (y : A) (r : Bool) → 0 < left → answered r y ≡ f (take size t) x → not r ≡ false → whole ≡ run_all f (chop (left - 1) size (take (length t - size) (drop size t))) y
-  slots_yes y r some' e t' =
-      so_far
-      ∙ ap (λ (ws : List (List ℕ)). run_all f ws x) (chop_first left size t some')
-      ∙ run_yes f (take size t) (chop (left - 1) size (drop size t)) x y r e (not_false r t')
-      ∙ ap (λ (l : List ℕ). run_all f (chop (left - 1) size l) y) (sym (behind size t))
-
-  pub slots_no : (y z : A) (r : Bool) → 0 < left → answered r y ≡ f (take size t) x → not r ≡ true → answered false z ≡ whole
-  unfolding answered
-  slots_no y z r some' e n = sym (so_far ∙ ap (λ (ws : List (List ℕ)). run_all f ws x) (chop_first left size t some') ∙ run_no f (take size t) (chop (left - 1) size (drop size t)) x y r e (not_true r n))
-
-  pub slots_done : left ≤ 0 → answered true x ≡ whole
-  unfolding chop
-  slots_done h = let none_left : 0 ≡ left = omega arith in run_done f x ∙ ap (λ (n : ℕ). run_all f (chop n size t) x) none_left ∙ sym so_far
 
 -- over the words of a list
 module _ {A : Type 0} (f : ℕ → A → Option A) (whole : Option A) (l : List ℕ) (i : ℕ) (x : A) (so_far : whole ≡ run_all f (drop i l) x) where
@@ -69,20 +54,9 @@ module _ {B : Type 0} (f : B → Bool) where
   unfolding every_of
   every_no b bs r e t = ap (λ (q : Bool). q && every_of f bs) (sym e ∙ t)
 
-module _ (f : List ℕ → Bool) (whole : Bool) (size left : ℕ) (t : List ℕ) (so_far : whole ≡ every_of f (chop left size t)) where
-  pub tests_yes : (r : Bool) → 0 < left → r ≡ f (take size t) → not r ≡ false → whole ≡ every_of f (chop (left - 1) size (take (length t - size) (drop size t)))
-  tests_yes r some' e t' =
-      so_far
-      ∙ ap (every_of f) (chop_first left size t some')
-      ∙ every_yes f (take size t) (chop (left - 1) size (drop size t)) r e (not_false r t')
-      ∙ ap (λ (l : List ℕ). every_of f (chop (left - 1) size l)) (sym (behind size t))
-
-  pub tests_no : (r : Bool) → 0 < left → r ≡ f (take size t) → not r ≡ true → false ≡ whole
-  tests_no r some' e n = sym (so_far ∙ ap (every_of f) (chop_first left size t some') ∙ every_no f (take size t) (chop (left - 1) size (drop size t)) r e (not_true r n))
-
-  pub tests_done : left ≤ 0 → true ≡ whole
-  unfolding chop every_of
-  tests_done h = let none_left : left ≡ 0 = omega arith in sym (so_far ∙ ap (λ (n : ℕ). every_of f (chop n size t)) none_left)
+  pub every_done : every_of f [] ≡ true
+  unfolding every_of
+  every_done = refl
 
 -- a test that decides a property of each element, made of every one
 module _ {B : Type 0} (P : B → Type 0) (f : B → Bool) where

@@ -12,17 +12,17 @@ use Rattle.store.specs.Layout.{slot_head, kind_free, kind_seq, kind_send, kind_r
 use Rattle.slots.specs.SoundTests.{plain_slot, present_slot, entry_slot, control_passes, entry_passes, entries_pass, place_passes}
 
 module _ (w : List ℕ) where
-  pub plain_number : ¬ (get_or w 2 0 ≡ 0) → false ≡ plain_slot w
+  pub plain_number : ¬ (get_or w 2 0 ≡ 0) → eqb (get_or w 2 0) 0 ≡ plain_slot w
   unfolding plain_slot
-  plain_number n = sym (ap (λ (b : Bool). b && eqb (get_or w 4 0) 0) (eqb_apart (get_or w 2 0) 0 n))
+  plain_number n = let no = eqb_apart (get_or w 2 0) 0 n in no ∙ sym (ap (λ (b : Bool). b && eqb (get_or w 4 0) 0) no)
 
   pub plain_names : get_or w 2 0 ≡ 0 → eqb (get_or w 4 0) 0 ≡ plain_slot w
   unfolding plain_slot
   plain_names e = sym (ap (λ (b : Bool). b && eqb (get_or w 4 0) 0) (eqb_of (get_or w 2 0) 0 e))
 
-  pub present_kind : ¬ (get_or w 0 0 ≡ kind_live) → false ≡ present_slot w
+  pub present_kind : ¬ (get_or w 0 0 ≡ kind_live) → eqb (get_or w 0 0) kind_live ≡ present_slot w
   unfolding present_slot
-  present_kind n = sym (ap (λ (b : Bool). b && eqb (get_or w 2 0) 0) (eqb_apart (get_or w 0 0) kind_live n))
+  present_kind n = let no = eqb_apart (get_or w 0 0) kind_live n in no ∙ sym (ap (λ (b : Bool). b && eqb (get_or w 2 0) 0) no)
 
   pub present_number : get_or w 0 0 ≡ kind_live → eqb (get_or w 2 0) 0 ≡ present_slot w
   unfolding present_slot
@@ -62,9 +62,9 @@ module _ (w : List ℕ) where
   unfolding by_kind
   entry_self r k e = e ∙ sym (of_kind kind_self k)
 
-  pub entry_check_over : get_or w 0 0 ≡ kind_check → 255 < get_or w 2 0 → false ≡ entry_slot w
+  pub entry_check_over : get_or w 0 0 ≡ kind_check → 255 < get_or w 2 0 → leb (get_or w 2 0) 255 ≡ entry_slot w
   unfolding by_kind
-  entry_check_over k h = sym (of_kind kind_check k ∙ ap (λ (b : Bool). b && eqb (get_or w 4 0) 0) (leb_over (get_or w 2 0) 255 h))
+  entry_check_over k h = let no = leb_over (get_or w 2 0) 255 h in no ∙ sym (of_kind kind_check k ∙ ap (λ (b : Bool). b && eqb (get_or w 4 0) 0) no)
 
   pub entry_check : get_or w 0 0 ≡ kind_check → get_or w 2 0 ≤ 255 → eqb (get_or w 4 0) 0 ≡ entry_slot w
   unfolding by_kind
@@ -85,17 +85,17 @@ control_passes_lem r places arities w e =
     e ∙ ap (λ (n : ℕ). good_control places arities (take n (drop slot_head w))) one
 
 module _ (places : ℕ) (arities w : List ℕ) where
-  pub passes_free : get_or w 0 0 ≡ kind_free → true ≡ entry_passes places arities w
+  pub passes_free : get_or w 0 0 ≡ kind_free → eqb (get_or w 0 0) kind_free ≡ entry_passes places arities w
   unfolding entry_passes
-  passes_free e = sym (cond_true _ _ (eqb_of (get_or w 0 0) kind_free e))
+  passes_free e = let yes' = eqb_of (get_or w 0 0) kind_free e in yes' ∙ sym (cond_true _ _ yes')
 
-  pub passes_control : (b r : Bool) → ¬ (get_or w 0 0 ≡ kind_free) → b ≡ entry_slot w → not b ≡ false → r ≡ control_passes places arities w → r ≡ entry_passes places arities w
+  pub passes_control : (b r : Bool) → ¬ (get_or w 0 0 ≡ kind_free) → b ≡ entry_slot w → b ≡ true → r ≡ control_passes places arities w → r ≡ entry_passes places arities w
   unfolding entry_passes
-  passes_control b r n e t q = q ∙ sym (cond_false _ _ (eqb_apart (get_or w 0 0) kind_free n) ∙ ap (λ (x : Bool). x && control_passes places arities w) (sym e ∙ not_false b t))
+  passes_control b r n e t q = q ∙ sym (cond_false _ _ (eqb_apart (get_or w 0 0) kind_free n) ∙ ap (λ (x : Bool). x && control_passes places arities w) (sym e ∙ t))
 
-  pub passes_not : (b : Bool) → ¬ (get_or w 0 0 ≡ kind_free) → b ≡ entry_slot w → not b ≡ true → false ≡ entry_passes places arities w
+  pub passes_not : (b : Bool) → ¬ (get_or w 0 0 ≡ kind_free) → b ≡ entry_slot w → b ≡ false → b ≡ entry_passes places arities w
   unfolding entry_passes
-  passes_not b n e f = sym (cond_false _ _ (eqb_apart (get_or w 0 0) kind_free n) ∙ ap (λ (x : Bool). x && control_passes places arities w) (sym e ∙ not_true b f))
+  passes_not b n e f = f ∙ sym (cond_false _ _ (eqb_apart (get_or w 0 0) kind_free n) ∙ ap (λ (x : Bool). x && control_passes places arities w) (sym e ∙ f))
 
 -- ---- a place
 

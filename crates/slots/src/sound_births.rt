@@ -5,8 +5,8 @@ ghost use Rattle.lists.specs.Decides.{Decides};
 ghost use Rattle.store.specs.Layout.{slot_head, most_places};
 ghost use Rattle.slots.specs.SoundTests.{Slots, Block, AllBorn, Births, live_from, answered, run_all, bear_one, bear_slot, bear_place};
 
-use crate::blocks::Sizes;
 use store::layout::{FREE, PLACES_ROOM, SLOT_KIND, SLOT_NUMBER, SPAWN};
+use store::sizes::Sizes;
 
 // One child more: a live place but 0 that was no child yet.
 fn bear(child: usize, live: &[bool], born: &mut [bool]) -> bool
@@ -45,15 +45,10 @@ fn bear_place(block: &[u32], sizes: Sizes, live: &[bool], born: &mut [bool]) -> 
     requires { (sizes.slot ≤ length block.now) × Slots 0 sizes.slot sizes.entries (drop sizes.slot block.now) × (length live.now ≡ length born.old) }
     ensures { answered result born.new ≡ bear_place sizes.slot sizes.entries live.now block.now born.old }
 {
-    let size = sizes.slot;
-    let mut t = &block[size..];
-    let mut left = sizes.entries;
-    while 0 < left {
-        if !bear_slot(&t[..size], live, born) {
+    for slot in block[sizes.slot..].chunks_exact(sizes.slot) {
+        if !bear_slot(slot, live, born) {
             return false;
         }
-        t = &t[size..];
-        left -= 1;
     }
     true
 }
@@ -63,12 +58,10 @@ fn all_born(live: &[bool], born: &[bool]) -> bool
     requires { length live.now ≡ length born.now }
     ensures { Decides (AllBorn live.now born.now) result }
 {
-    let mut q = 1;
-    while q < live.len() {
+    for q in 1..live.len() {
         if live[q] && !born[q] {
             return false;
         }
-        q += 1;
     }
     true
 }
@@ -78,15 +71,10 @@ fn bear_places(blocks: &[u32], sizes: Sizes, live: &[bool], born: &mut [bool]) -
     requires { (length blocks.now ≡ sizes.places * sizes.block) × All (Block 0 sizes.slot sizes.entries) (chop sizes.places sizes.block blocks.now) × (length live.now ≡ length born.old) }
     ensures { answered result born.new ≡ run_all (bear_place sizes.slot sizes.entries live.now) (chop sizes.places sizes.block blocks.now) born.old }
 {
-    let len = sizes.block;
-    let mut t = blocks;
-    let mut left = sizes.places;
-    while 0 < left {
-        if !bear_place(&t[..len], sizes, live, born) {
+    for block in blocks.chunks_exact(sizes.block) {
+        if !bear_place(block, sizes, live, born) {
             return false;
         }
-        t = &t[len..];
-        left -= 1;
     }
     true
 }
@@ -105,19 +93,12 @@ pub fn births(blocks: &[u32], sizes: Sizes, live: &[bool]) -> bool
 
 // Which places have a process: those whose first slot is not free.
 pub fn live_places(blocks: &[u32], sizes: Sizes) -> [bool; PLACES_ROOM]
-    requires { (length blocks.now ≡ sizes.places * sizes.block) × (1 ≤ sizes.block) × (sizes.places ≤ most_places) }
+    requires { length blocks.now ≡ sizes.places * sizes.block }
     ensures { result ≡ live_from 0 (chop sizes.places sizes.block blocks.now) (replicate most_places false) }
 {
     let mut live = [false; PLACES_ROOM];
-    let len = sizes.block;
-    let mut t = blocks;
-    let mut left = sizes.places;
-    let mut p = 0;
-    while 0 < left {
-        live[p] = t[SLOT_KIND] != FREE;
-        t = &t[len..];
-        left -= 1;
-        p += 1;
+    for (p, block) in blocks.chunks_exact(sizes.block).enumerate() {
+        live[p] = block[SLOT_KIND] != FREE;
     }
     live
 }

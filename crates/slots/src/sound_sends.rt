@@ -5,11 +5,12 @@ ghost use Rattle.store.specs.Layout.{most_places, longest_slot};
 ghost use Rattle.slots.specs.SoundTests.{ControlFits, Slots, ControlBlock};
 ghost use Rattle.slots.specs.SendTests.{SentIs, NotesPlace, NotesPlaces};
 
-use crate::blocks::Sizes;
 use step::work::{Doing, about_to};
 use store::layout::{SEND, SLOT_HEAD, SLOT_KIND, SLOT_WORDS};
+use store::sizes::Sizes;
 
 // What a slot says of sends: it is none, a send to a live place, or a send that its control is not about to make or to no live place.
+// Three cases that one match tells apart by their names: `Result<Option<u32>, E>` would be no plainer.
 #[derive(Clone, Copy)]
 pub enum Sent {
     No,
@@ -39,20 +40,15 @@ fn slot_sends(slot: &[u32], live: &[bool]) -> Sent
     Sent::Bad
 }
 
-// Notes the targets of a place's sends in their order, one more than each, from a place in the table on.
+// Notes the targets of a place's sends in their order, from a place in the table on: one more than each, since 0 stands where none is,
+// as `NotesPlace` says.
 fn note_place(block: &[u32], sizes: Sizes, live: &[bool], at: usize, targets: &mut [u32]) -> bool
-    requires { (sizes.slot ≤ length block.now) × (sizes.slot ≤ longest_slot) × Slots 0 sizes.slot sizes.entries (drop sizes.slot block.now) × All ControlFits (chop sizes.entries sizes.slot (drop sizes.slot block.now)) × (length live.now ≡ most_places) × (at + sizes.entries ≤ length targets.old) }
+    requires { (sizes.slot ≤ length block.now) × Slots 0 sizes.slot sizes.entries (drop sizes.slot block.now) × All ControlFits (chop sizes.entries sizes.slot (drop sizes.slot block.now)) × (length live.now ≡ most_places) × (at + sizes.entries ≤ length targets.old) }
     ensures { NotesPlace live.now sizes.slot sizes.entries at block.now targets.old targets.new result }
 {
-    let size = sizes.slot;
-    let mut t = &block[size..];
-    let mut left = sizes.entries;
     let mut k = at;
-    while 0 < left {
-        let one = slot_sends(&t[..size], live);
-        t = &t[size..];
-        left -= 1;
-        match one {
+    for slot in block[sizes.slot..].chunks_exact(sizes.slot) {
+        match slot_sends(slot, live) {
             Sent::Bad => return false,
             Sent::No => {}
             Sent::To(target) => {
@@ -64,21 +60,17 @@ fn note_place(block: &[u32], sizes: Sizes, live: &[bool], at: usize, targets: &m
     true
 }
 
-// Notes the targets of all sends, a row of words for each place, one for each of its entries.
+// Notes the targets of all sends, a row of words for each place, one for each of its entries. The row is told by where it begins, not
+// lent: `NotesPlaces` speaks of the whole table.
 pub fn note_places(blocks: &[u32], sizes: Sizes, live: &[bool], targets: &mut [u32]) -> bool
-    requires { (length blocks.now ≡ sizes.places * sizes.block) × All (ControlBlock sizes.slot sizes.entries) (chop sizes.places sizes.block blocks.now) × (sizes.slot ≤ longest_slot) × (length live.now ≡ most_places) × (sizes.places * sizes.entries ≤ length targets.old) }
+    requires { (length blocks.now ≡ sizes.places * sizes.block) × All (ControlBlock sizes.slot sizes.entries) (chop sizes.places sizes.block blocks.now) × (length live.now ≡ most_places) × (sizes.places * sizes.entries ≤ length targets.old) }
     ensures { NotesPlaces live.now sizes.slot sizes.entries (chop sizes.places sizes.block blocks.now) targets.old targets.new result }
 {
-    let len = sizes.block;
-    let mut t = blocks;
-    let mut left = sizes.places;
     let mut at = 0;
-    while 0 < left {
-        if !note_place(&t[..len], sizes, live, at, targets) {
+    for block in blocks.chunks_exact(sizes.block) {
+        if !note_place(block, sizes, live, at, targets) {
             return false;
         }
-        t = &t[len..];
-        left -= 1;
         at += sizes.entries;
     }
     true

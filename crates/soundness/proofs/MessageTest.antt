@@ -3,15 +3,14 @@ use Prim.Native.Nat.{ℕ, ◌+◌, ◌-◌, ◌*◌, ◌/◌, ◌%◌, ◌≤◌
 use mathlib.Core.Path.{◌≡◌, sym, ◌∙◌, ap}
 use mathlib.Core.Bool.{Bool, true, false, not}
 use mathlib.Core.Option.{Option}
-use mathlib.Core.List.{List}
+use mathlib.Core.List.{List, [], ◌∷◌}
 use native.Mathlib.Omega.{arith}
-use lib.ListN.{length, take, drop, get_or, set}
+use lib.ListN.{take, drop, get_or, set}
 use Rattle.lists.proofs.Tests.{eqb_of, eqb_apart, ltb_of, ltb_over, cond_true, cond_false, not_true, not_false}
-use Rattle.lists.proofs.Blocks.{block_in, chop}
+use Rattle.lists.proofs.Blocks.{block_in}
 use Rattle.store.specs.Layout.{slot_head, name_base, kind_rec}
 use Rattle.slots.specs.SoundTests.{names_in, answered, and_then}
 use Rattle.soundness.specs.MessageTests.{arrive_at, arrive_one, arrive_all, arrive_slot, arrive_taken, arrive_place, arrive_from}
-use Rattle.slots.proofs.SoundTestWalk.{chop_first, behind}
 
 -- where a sender's send of a count is noted
 pub name_in_lem : (places entries sender count n : ℕ) → places * entries ≤ n → sender < places → count < entries → sender * entries + count < n
@@ -64,26 +63,22 @@ module _ (words size count places entries place : ℕ) (block targets : List ℕ
   place_arrives_not a x z e f =
       ap (λ (o : Option (List ℕ)). and_then o (arrive_taken words size count places entries place block)) (ap (λ (b : Bool). answered b x) (sym (not_true a f)) ∙ e ∙ ap (λ (l : List ℕ). arrive_all places entries place l targets) queue_same)
 
--- ---- over places
+-- ---- over places, of which the next stands at a count
 
-module _ (words size count places entries place len left : ℕ) (t x : List ℕ) (whole : Option (List ℕ)) (so_far : whole ≡ arrive_from words size count places entries place (chop left len t) x) where
-  here : 0 < left → whole ≡ and_then (arrive_place words size count places entries place (take len t) x) (arrive_from words size count places entries (place + 1) (chop (left - 1) len (drop len t)))
+module _ (words size count places entries at : ℕ) (b : List ℕ) (bs : List (List ℕ)) (x : List ℕ) (whole : Option (List ℕ)) (so_far : whole ≡ arrive_from words size count places entries at (b ∷ bs) x)
+    (place : ℕ) (ep : place ≡ at) (y : List ℕ) (r : Bool) (e : answered r y ≡ arrive_place words size count places entries place b x) where
+  here : whole ≡ and_then (answered r y) (arrive_from words size count places entries (at + 1) bs)
   unfolding arrive_from
-  here some' = so_far ∙ ap (λ (bs : List (List ℕ)). arrive_from words size count places entries place bs x) (chop_first left len t some')
+  here = so_far ∙ ap (λ (o : Option (List ℕ)). and_then o (arrive_from words size count places entries (at + 1) bs)) (sym (e ∙ ap (λ (p : ℕ). arrive_place words size count places entries p b x) ep))
 
-  pub from_yes : (y : List ℕ) (r : Bool) → 0 < left → answered r y ≡ arrive_place words size count places entries place (take len t) x → not r ≡ false
-      → whole ≡ arrive_from words size count places entries (place + 1) (chop (left - 1) len (take (length t - len) (drop len t))) y
+  pub from_yes : (next : ℕ) → next ≡ at + 1 → r ≡ true → whole ≡ arrive_from words size count places entries next bs y
   unfolding answered and_then
-  from_yes y r some' e yes' =
-      here some'
-      ∙ ap (λ (o : Option (List ℕ)). and_then o (arrive_from words size count places entries (place + 1) (chop (left - 1) len (drop len t)))) (sym e ∙ ap (λ (b : Bool). answered b y) (not_false r yes'))
-      ∙ ap (λ (l : List ℕ). arrive_from words size count places entries (place + 1) (chop (left - 1) len l) y) (sym (behind len t))
+  from_yes next en t = here ∙ ap (λ (q : Bool). and_then (answered q y) (arrive_from words size count places entries (at + 1) bs)) t ∙ ap (λ (p : ℕ). arrive_from words size count places entries p bs y) (sym en)
 
-  pub from_no : (y z : List ℕ) (r : Bool) → 0 < left → answered r y ≡ arrive_place words size count places entries place (take len t) x → not r ≡ true → answered false z ≡ whole
+  pub from_no : (z : List ℕ) → r ≡ false → answered false z ≡ whole
   unfolding answered and_then
-  from_no y z r some' e no' =
-      sym (here some' ∙ ap (λ (o : Option (List ℕ)). and_then o (arrive_from words size count places entries (place + 1) (chop (left - 1) len (drop len t)))) (sym e ∙ ap (λ (b : Bool). answered b y) (not_true r no')))
+  from_no z f = sym (here ∙ ap (λ (q : Bool). and_then (answered q y) (arrive_from words size count places entries (at + 1) bs)) f)
 
-  pub from_done : left ≤ 0 → answered true x ≡ whole
-  unfolding answered chop arrive_from
-  from_done h = let none_left : left ≡ 0 = omega arith in sym (so_far ∙ ap (λ (n : ℕ). arrive_from words size count places entries place (chop n len t) x) none_left)
+pub from_done : (words size count places entries at : ℕ) (x : List ℕ) (whole : Option (List ℕ)) → whole ≡ arrive_from words size count places entries at [] x → answered true x ≡ whole
+unfolding answered arrive_from
+from_done words size count places entries at x whole so_far = sym so_far

@@ -12,10 +12,8 @@ use Rattle.lists.specs.Lists.{All}
 use Rattle.lists.proofs.All.{all_so, all_take, all_drop}
 use Rattle.lists.proofs.Blocks.{chop, length_chop}
 use Rattle.rules.specs.State.{Sizes}
-use Rattle.store.specs.Layout.{blocks_from, slot_size, slot_count, block_size, needed, most_places, most_entries, longest_slot, kind_free}
+use Rattle.store.specs.Layout.{blocks_from, slot_size, slot_count, block_size, needed, kind_free}
 use Rattle.store.specs.Formed.{IsZero, WellSlot, WellSlots, sizes_in, WellFormedStore}
-use Rattle.store.proofs.SoundStates.{sizes_in_lem}
-use Rattle.store.proofs.LayoutLaws.{slot_most}
 use Rattle.store.proofs.WellTestBlock.{free_slots}
 use Rattle.store.proofs.WellTestRead.{slots_block}
 use Rattle.slots.specs.SoundTests.{kind_word, NamesFit, ControlFits}
@@ -106,23 +104,24 @@ module _ (l : List ℕ) (formed : WellFormedStore l) where
     lent_blocks : chop (get_or l 0 0) len (take (all - 516) (drop 516 l)) ≡ blocks_in l
     lent_blocks = (λ i. chop (get_or l 0 0) (el i) (lent i))
 
-    pub lent_long : length (take (all - 516) (drop 516 l)) ≡ get_or l 0 0 * len
-    lent_long = ap length lent ∙ region_long ∙ ap (λ (n : ℕ). get_or l 0 0 * n) (sym el)
+    pub long_at : length (take (all - 516) (drop 516 l)) ≡ get_or l 0 0 * len
+    long_at = ap length lent ∙ region_long ∙ ap (λ (n : ℕ). get_or l 0 0 * n) (sym el)
 
-    pub lent_whole : All (WholeBlock (get_or l 2 0) size (get_or l 1 0)) (chop (get_or l 0 0) len (take (all - 516) (drop 516 l)))
-    lent_whole = subst (λ (n : ℕ). All (WholeBlock (get_or l 2 0) n (get_or l 1 0)) (chop (get_or l 0 0) len (take (all - 516) (drop 516 l)))) (sym es) (subst (All (WholeBlock sizes.words (slot_size sizes) sizes.entries)) (sym lent_blocks) blocks_whole)
+    pub whole_at : All (WholeBlock (get_or l 2 0) size (get_or l 1 0)) (chop (get_or l 0 0) len (take (all - 516) (drop 516 l)))
+    whole_at = subst (λ (n : ℕ). All (WholeBlock (get_or l 2 0) n (get_or l 1 0)) (chop (get_or l 0 0) len (take (all - 516) (drop 516 l)))) (sym es) (subst (All (WholeBlock sizes.words (slot_size sizes) sizes.entries)) (sym lent_blocks) blocks_whole)
 
-    pub len_some : 1 ≤ len
-    len_some = omega (arith, el, suc-mul sizes.entries (slot_size sizes))
+    pub tested_at : (arities : List ℕ) (r : Bool) → SlotsTested (get_or l 0 0) (get_or l 1 0) (get_or l 2 0) size arities (chop (get_or l 0 0) len (take (all - 516) (drop 516 l))) r → StoreTested l arities r
+    tested_at arities r x = subst (λ (n : ℕ). SlotsTested (get_or l 0 0) (get_or l 1 0) (get_or l 2 0) n arities (blocks_in l) r) es (subst (λ (bs : List (List ℕ)). SlotsTested (get_or l 0 0) (get_or l 1 0) (get_or l 2 0) size arities bs r) lent_blocks x)
 
-    pub size_few : size ≤ longest_slot
-    size_few = omega (arith, slot_most sizes formed.sizes_pass)
+  -- the same with the sizes that the code read
+  module _ (s : Sizes) (e : s ≡ sizes_in l) (size len all : ℕ) (es : size ≡ slot_size s) (el : len ≡ block_size s) (ea : all ≡ needed s) where
+    pub lent_long : length (take (all - 516) (drop 516 l)) ≡ s.places * len
+    lent_long = long_at size len all (es ∙ ap slot_size e) (el ∙ ap block_size e) (ea ∙ ap needed e) ∙ ap (λ (z : Sizes). z.places * len) (sym e)
 
-    pub places_few : get_or l 0 0 ≤ most_places
-    places_few = (sizes_in_lem sizes formed.sizes_pass).places_high
+    pub lent_whole : All (WholeBlock s.words size s.entries) (chop s.places len (take (all - 516) (drop 516 l)))
+    lent_whole = subst (λ (z : Sizes). All (WholeBlock z.words size z.entries) (chop z.places len (take (all - 516) (drop 516 l)))) (sym e) (whole_at size len all (es ∙ ap slot_size e) (el ∙ ap block_size e) (ea ∙ ap needed e))
 
-    pub entries_few : get_or l 1 0 ≤ most_entries
-    entries_few = (sizes_in_lem sizes formed.sizes_pass).entries_high
-
-    pub store_tested : (arities : List ℕ) (r : Bool) → SlotsTested (get_or l 0 0) (get_or l 1 0) (get_or l 2 0) size arities (chop (get_or l 0 0) len (take (all - 516) (drop 516 l))) r → StoreTested l arities r
-    store_tested arities r x = subst (λ (n : ℕ). SlotsTested (get_or l 0 0) (get_or l 1 0) (get_or l 2 0) n arities (blocks_in l) r) es (subst (λ (bs : List (List ℕ)). SlotsTested (get_or l 0 0) (get_or l 1 0) (get_or l 2 0) size arities bs r) lent_blocks x)
+    pub store_tested : (arities : List ℕ) (r : Bool) → SlotsTested s.places s.entries s.words size arities (chop s.places len (take (all - 516) (drop 516 l))) r → StoreTested l arities r
+    store_tested arities r x =
+        tested_at size len all (es ∙ ap slot_size e) (el ∙ ap block_size e) (ea ∙ ap needed e) arities r
+        (subst (λ (z : Sizes). SlotsTested z.places z.entries z.words size arities (chop z.places len (take (all - 516) (drop 516 l))) r) e x)

@@ -5,32 +5,26 @@ ghost use Rattle.slots.specs.SoundTests.{NamesFit, Slots, Block, names_in, every
 ghost use Rattle.soundness.specs.MessageTests.{flows_on, place_flows};
 
 use prefixes::prefixes::left_begins;
-use slots::blocks::Sizes;
 use store::layout::{REC, SLOT_HEAD, SLOT_KIND, SLOT_NUMBER, SLOT_QUEUE};
+use store::sizes::Sizes;
 
 // The recs among the entries of a place, oldest first, and the present queue after them.
 fn place_flows(block: &[u32], sizes: Sizes) -> bool
     requires { NamesFit sizes.words block.now × (sizes.slot ≤ length block.now) × Slots sizes.words sizes.slot sizes.entries (drop sizes.slot block.now) }
     ensures { result ≡ flows_on sizes.words 0 [] (chop sizes.entries sizes.slot (drop sizes.slot block.now)) (names_in sizes.words block.now) }
 {
-    let size = sizes.slot;
-    let words = sizes.words;
-    let from = SLOT_HEAD + words;
+    let from = SLOT_HEAD + sizes.words;
     let mut before = &block[0..0];
     let mut taken = 0;
-    let mut t = &block[size..];
-    let mut left = sizes.entries;
-    while 0 < left {
-        if t[SLOT_KIND] == REC {
-            let names = &t[from..from + t[SLOT_QUEUE] as usize];
+    for slot in block[sizes.slot..].chunks_exact(sizes.slot) {
+        if slot[SLOT_KIND] == REC {
+            let names = &slot[from..from + slot[SLOT_QUEUE] as usize];
             if !left_begins(before, taken, names) {
                 return false;
             }
             before = names;
-            taken = t[SLOT_NUMBER] as usize;
+            taken = slot[SLOT_NUMBER] as usize;
         }
-        t = &t[size..];
-        left -= 1;
     }
     left_begins(
         before,
@@ -44,15 +38,10 @@ pub fn flows(blocks: &[u32], sizes: Sizes) -> bool
     requires { (length blocks.now ≡ sizes.places * sizes.block) × All (Block sizes.words sizes.slot sizes.entries) (chop sizes.places sizes.block blocks.now) }
     ensures { result ≡ every_of (place_flows sizes.words sizes.slot sizes.entries) (chop sizes.places sizes.block blocks.now) }
 {
-    let len = sizes.block;
-    let mut t = blocks;
-    let mut left = sizes.places;
-    while 0 < left {
-        if !place_flows(&t[..len], sizes) {
+    for block in blocks.chunks_exact(sizes.block) {
+        if !place_flows(block, sizes) {
             return false;
         }
-        t = &t[len..];
-        left -= 1;
     }
     true
 }

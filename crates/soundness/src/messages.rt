@@ -1,17 +1,18 @@
 // Messages: each message that came was sent to its place and came once.
 ghost use Rattle.std.specs.Prelude.{◌≡◌, ◌*◌, ◌<◌, ◌≤◌, length, drop};
 ghost use Rattle.lists.specs.Lists.{All, chop};
-ghost use Rattle.store.specs.Layout.{most_places, most_entries};
+ghost use Rattle.store.specs.Layout.{most_places};
 ghost use Rattle.slots.specs.SoundTests.{Slots, answered};
 ghost use Rattle.soundness.specs.MessageTests.{TakenFits, arrive_one, arrive_all, arrive_slot, arrive_taken, TakenBlock, arrive_place, arrive_from};
 
 use rows::words::NAME_BASE;
-use slots::blocks::Sizes;
 use store::layout::{REC, SLOT_HEAD, SLOT_KIND, SLOT_NUMBER, SLOT_QUEUE};
+use store::sizes::Sizes;
 
-// A message that came to a place: it was sent there, and did not come before. `targets` holds one more than each send's target.
+// A message that came to a place: it was sent there, and did not come before. `targets` holds one more than each send's target, 0 where
+// none is, as `arrive_one` says.
 fn arrive(name: u32, sizes: Sizes, place: u32, targets: &mut [u32]) -> bool
-    requires { (sizes.places * sizes.entries ≤ length targets.old) × (place < most_places) × (sizes.places ≤ most_places) × (sizes.entries ≤ most_entries) }
+    requires { (sizes.places * sizes.entries ≤ length targets.old) × (place < most_places) }
     ensures { answered result targets.new ≡ arrive_one sizes.places sizes.entries place name targets.old }
 {
     let places = sizes.places;
@@ -34,22 +35,20 @@ fn arrive(name: u32, sizes: Sizes, place: u32, targets: &mut [u32]) -> bool
 
 // The messages of a queue.
 fn arrive_all(names: &[u32], sizes: Sizes, place: u32, targets: &mut [u32]) -> bool
-    requires { (sizes.places * sizes.entries ≤ length targets.old) × (place < most_places) × (sizes.places ≤ most_places) × (sizes.entries ≤ most_entries) }
+    requires { (sizes.places * sizes.entries ≤ length targets.old) × (place < most_places) }
     ensures { answered result targets.new ≡ arrive_all sizes.places sizes.entries place names.now targets.old }
 {
-    let mut i = 0;
-    while i < names.len() {
-        if !arrive(names[i], sizes, place, targets) {
+    for name in names {
+        if !arrive(*name, sizes, place, targets) {
             return false;
         }
-        i += 1;
     }
     true
 }
 
 // The message that a slot's rec took.
 fn arrive_slot(slot: &[u32], sizes: Sizes, place: u32, targets: &mut [u32]) -> bool
-    requires { TakenFits sizes.words slot.now × (sizes.places * sizes.entries ≤ length targets.old) × (place < most_places) × (sizes.places ≤ most_places) × (sizes.entries ≤ most_entries) }
+    requires { TakenFits sizes.words slot.now × (sizes.places * sizes.entries ≤ length targets.old) × (place < most_places) }
     ensures { answered result targets.new ≡ arrive_slot sizes.words sizes.places sizes.entries place slot.now targets.old }
 {
     if slot[SLOT_KIND] == REC {
@@ -65,25 +64,20 @@ fn arrive_slot(slot: &[u32], sizes: Sizes, place: u32, targets: &mut [u32]) -> b
 
 // The messages that a place's recs took.
 fn arrive_taken(block: &[u32], sizes: Sizes, place: u32, targets: &mut [u32]) -> bool
-    requires { (sizes.slot ≤ length block.now) × Slots sizes.words sizes.slot sizes.entries (drop sizes.slot block.now) × All (TakenFits sizes.words) (chop sizes.entries sizes.slot (drop sizes.slot block.now)) × (sizes.places * sizes.entries ≤ length targets.old) × (place < most_places) × (sizes.places ≤ most_places) × (sizes.entries ≤ most_entries) }
+    requires { (sizes.slot ≤ length block.now) × Slots sizes.words sizes.slot sizes.entries (drop sizes.slot block.now) × All (TakenFits sizes.words) (chop sizes.entries sizes.slot (drop sizes.slot block.now)) × (sizes.places * sizes.entries ≤ length targets.old) × (place < most_places) }
     ensures { answered result targets.new ≡ arrive_taken sizes.words sizes.slot sizes.entries sizes.places sizes.entries place block.now targets.old }
 {
-    let size = sizes.slot;
-    let mut t = &block[size..];
-    let mut left = sizes.entries;
-    while 0 < left {
-        if !arrive_slot(&t[..size], sizes, place, targets) {
+    for slot in block[sizes.slot..].chunks_exact(sizes.slot) {
+        if !arrive_slot(slot, sizes, place, targets) {
             return false;
         }
-        t = &t[size..];
-        left -= 1;
     }
     true
 }
 
 // The messages that came to a place: its queue, and what its recs took.
 fn arrive_place(block: &[u32], sizes: Sizes, place: u32, targets: &mut [u32]) -> bool
-    requires { TakenBlock sizes.words sizes.slot sizes.entries block.now × (sizes.places * sizes.entries ≤ length targets.old) × (place < most_places) × (sizes.places ≤ most_places) × (sizes.entries ≤ most_entries) }
+    requires { TakenBlock sizes.words sizes.slot sizes.entries block.now × (sizes.places * sizes.entries ≤ length targets.old) × (place < most_places) }
     ensures { answered result targets.new ≡ arrive_place sizes.words sizes.slot sizes.entries sizes.places sizes.entries place block.now targets.old }
 {
     let from = SLOT_HEAD + sizes.words;
@@ -100,20 +94,13 @@ fn arrive_place(block: &[u32], sizes: Sizes, place: u32, targets: &mut [u32]) ->
 
 // The messages that came to all places.
 pub fn messages(blocks: &[u32], sizes: Sizes, targets: &mut [u32]) -> bool
-    requires { (length blocks.now ≡ sizes.places * sizes.block) × All (TakenBlock sizes.words sizes.slot sizes.entries) (chop sizes.places sizes.block blocks.now) × (sizes.places * sizes.entries ≤ length targets.old) × (sizes.places ≤ most_places) × (sizes.entries ≤ most_entries) }
+    requires { (length blocks.now ≡ sizes.places * sizes.block) × All (TakenBlock sizes.words sizes.slot sizes.entries) (chop sizes.places sizes.block blocks.now) × (sizes.places * sizes.entries ≤ length targets.old) }
     ensures { answered result targets.new ≡ arrive_from sizes.words sizes.slot sizes.entries sizes.places sizes.entries 0 (chop sizes.places sizes.block blocks.now) targets.old }
 {
-    let len = sizes.block;
-    let mut t = blocks;
-    let mut left = sizes.places;
-    let mut place = 0u32;
-    while 0 < left {
-        if !arrive_place(&t[..len], sizes, place, targets) {
+    for (place, block) in blocks.chunks_exact(sizes.block).enumerate() {
+        if !arrive_place(block, sizes, place as u32, targets) {
             return false;
         }
-        t = &t[len..];
-        left -= 1;
-        place += 1;
     }
     true
 }

@@ -6,6 +6,7 @@ use mathlib.Core.List.{List}
 use native.Mathlib.Omega.{arith}
 use native.Mathlib.Numerals.{add-one}
 use lib.ListN.{length, drop, get_or, set, replicate}
+use Rattle.std.specs.Prelude.{Err}
 use Rattle.lists.proofs.Tests.{none_not_some, some_injective}
 use Rattle.term.specs.Words.{n_of, k_of, tag_apply}
 use Rattle.term.specs.Rows.{passed}
@@ -17,9 +18,8 @@ use Rattle.machine.specs.Match.{unbound}
 use Rattle.machine.specs.Bind.{bind, parameters}
 use Rattle.row_laws.specs.Rows.{Stands, Plain, PlainAll, Bound}
 use Rattle.copying.specs.Nexts.{Puts, PutsCopy}
-use Rattle.step.specs.Steps.{fitted_of, ParametersAt, ModuleIs, ApplyNext}
-use Rattle.step.specs.declared.step.Next.{Next}
-use Rattle.step.specs.declared.step.Next.TheVariants.{Nothing}
+use Rattle.step.specs.Steps.{Next, fitted_of, ParametersAt, ModuleIs, ApplyNext}
+use Rattle.step.specs.declared.step.NoNext.TheVariants.{Nothing}
 use Rattle.row_laws.proofs.RowTerms.{some_words, plain_all_whole, stands_within}
 use Rattle.copying.proofs.RowMatch.{bound_more}
 use Rattle.choosing.proofs.RowClause.{nothing_bound, sixty_four}
@@ -67,7 +67,7 @@ body_stands module' functions k tag m j body i e start es =
     }
 
 module _ (module' c : List ℕ) (at : ℕ) (old : List ℕ) where
-  pub apply_past : length c ≤ at → ApplyNext module' c at old old Nothing
+  pub apply_past : length c ≤ at → ApplyNext module' c at old old (Err Nothing)
   unfolding ApplyNext
   apply_past h functions n k tag m j vs body i s a l e = absurd (omega (arith, stands_within c at _ s))
 
@@ -76,7 +76,7 @@ module _ (module' c : List ℕ) (at : ℕ) (old : List ℕ) where
         → Stands module' start (node tag m j (body then end))
     starts functions n k tag m j vs body i s e = body_stands module' functions k tag m j body i e start (es ∙ ap (start_from module' 0) (ek ∙ (children_at c at tag_apply n k vs s).k_is))
 
-    pub apply_missing : length module' ≤ start → ApplyNext module' c at old old Nothing
+    pub apply_missing : length module' ≤ start → ApplyNext module' c at old old (Err Nothing)
     unfolding ApplyNext
     apply_missing h functions n k tag m j vs body i s a l e = absurd (omega (arith, stands_within module' start _ (starts functions n k tag m j vs body i s e)))
 

@@ -1,5 +1,5 @@
 -- Laws of a spawn's child: its first control.
-use Prim.Native.Nat.{ℕ, suc, ◌+◌, ◌-◌, ◌<◌, ◌≤◌}
+use Prim.Native.Nat.{ℕ, suc, ◌+◌, ◌-◌, ◌<◌}
 use mathlib.Core.Path.{◌≡◌, refl, sym, ap, ap₂, ◌∙◌, subst}
 use mathlib.Core.List.{List, [], ◌∷◌, ◌++◌}
 use native.Mathlib.Omega.{arith}
@@ -12,17 +12,17 @@ use Rattle.term.specs.Read.{terms_of}
 use Rattle.machine.specs.Place.{working}
 use Rattle.machine.specs.Work.{to_spawn, work}
 use Rattle.row_laws.specs.Rows.{Stands}
-use Rattle.copying.specs.Places.{Finds}
+use Rattle.std.specs.Prelude.{None}
+use Rattle.copying.specs.Places.{Finds, PlaceIs}
 use Rattle.copying.specs.Copies.{Wrote}
-use Rattle.step.specs.Steps.{fitted_of}
+use Rattle.step.specs.Steps.{Next, fitted_of}
 use Rattle.step.specs.Controls.{ControlIs}
 use Rattle.step.specs.Becomes.{ChildNext}
-use Rattle.step.specs.declared.step.Next.{Next}
-use Rattle.row_laws.proofs.RowTerms.{one_skip, skip_within, plain_whole, stands_within}
+use Rattle.row_laws.proofs.RowTerms.{one_skip, skip_within, plain_whole}
 use Rattle.copying.proofs.RowWrite.{wrote_then}
 use Rattle.step.proofs.RowStep.{children_at, wrote_next}
 use Rattle.step.proofs.RowTags.{Comes, comes}
-use Rattle.step.proofs.RowBecomes.{stands_there}
+use Rattle.step.proofs.RowBecomes.{stands_there, is_done}
 
 apply_words : (n k : ℕ) (ts : Terms) → words (node tag_apply n k ts) ≡ (word tag_apply n k ∷ []) ++ words_of ts
 unfolding words
@@ -48,11 +48,11 @@ module _ (c : List ℕ) (at : ℕ) (f : Finds c 0 1 (length c) at) (module' : Li
       let w : working t ≡ node tag_spawn x.n x.k x.children = x.is ∙ ap (λ (j : ℕ). node j x.n x.k x.children) k.0.tag_is in
       record { n = x.n; k = x.k; children = x.children; stands = subst (Stands c at) w (stands_there c at f (terms_of module') t i k.0.no_value); first_words = k.1 }
 
-module _ (c : List ℕ) (at : ℕ) (f : Finds c 0 1 (length c) at) (old : List ℕ) where
-  pub child_past : (r : Next) → length c ≤ at → ChildNext c old old r
-  unfolding ChildNext
-  child_past r h module' t first rows i e = absurd (omega (arith, stands_within c at _ (spawn_at c at f module' t first rows i e).stands))
+pub child_past : (c old : List ℕ) (r : Next) → PlaceIs c None → ChildNext c old old r
+unfolding ChildNext Comes
+child_past c old r p module' t first rows i e = absurd (is_done c p (terms_of module') t i (comes module' c t (to_spawn first rows) i e).0.no_value)
 
+module _ (c : List ℕ) (at : ℕ) (f : Finds c 0 1 (length c) at) (old : List ℕ) where
   module _ (end' : ℕ) (ee : end' ≡ at + passed (drop at c) 1) where
     ends : (first : List ℕ) (s : SpawnAt c at first) → end' ≡ at + suc (length (words_of s.children))
     ends first s =

@@ -1,5 +1,5 @@
 -- Laws of a send of a whole control.
-use Prim.Native.Nat.{ℕ, ◌+◌, ◌-◌, ◌≤◌}
+use Prim.Native.Nat.{ℕ, ◌+◌, ◌-◌}
 use mathlib.Core.Path.{◌≡◌, refl, sym, ap, ap₂, ◌∙◌, subst}
 use mathlib.Core.Bool.{Bool, true, false}
 use mathlib.Core.List.{List}
@@ -16,19 +16,19 @@ use Rattle.machine.specs.Bind.{bind, bind_all}
 use Rattle.machine.specs.Place.{working}
 use Rattle.machine.specs.Work.{to_send, next, work}
 use Rattle.row_laws.specs.Rows.{Stands}
-use Rattle.copying.specs.Places.{Finds}
+use Rattle.std.specs.Prelude.{None}
+use Rattle.copying.specs.Places.{Finds, PlaceIs}
 use Rattle.copying.specs.Copies.{Wrote}
 use Rattle.copying.specs.Nexts.{row_with, Puts, PutsCopy}
-use Rattle.step.specs.Steps.{fitted_of}
+use Rattle.step.specs.Steps.{Next, fitted_of}
 use Rattle.step.specs.Controls.{ControlIs}
 use Rattle.step.specs.Becomes.{Sent, SendNext}
 use Rattle.step.specs.declared.control.Extent.{Extent}
-use Rattle.step.specs.declared.step.Next.{Next}
-use Rattle.row_laws.proofs.RowTerms.{one_skip, plain_whole, stands_within}
+use Rattle.row_laws.proofs.RowTerms.{one_skip, plain_whole}
 use Rattle.choosing.proofs.RowClause.{nothing_bound}
 use Rattle.step.proofs.RowStep.{children_at, first_stands, others_plain, others_on, wrote_next}
 use Rattle.step.proofs.RowTags.{Comes, comes}
-use Rattle.step.proofs.RowBecomes.{stands_there, row_is}
+use Rattle.step.proofs.RowBecomes.{stands_there, row_is, is_done}
 
 -- the send at the working place of a control that is about to send
 pub record SendAt (c : List ℕ) (at : ℕ) (t : Term) (value row : List ℕ) : Type 0 where
@@ -87,11 +87,15 @@ mutual
   bind_nothings end = refl
   bind_nothings (t then ts) = ap₂ (λ (u : Term) (us : Terms). u then us) (bind_nothing t) (bind_nothings ts)
 
-module _ (c : List ℕ) (at : ℕ) (f : Finds c 0 1 (length c) at) where
-  pub sent_past : (r : Extent) → length c ≤ at → Sent c r
-  unfolding Sent
-  sent_past r h module' t target value row i e = absurd (omega (arith, stands_within c at _ (send_at c at f module' t target value row i e).stands))
+pub sent_past : (c : List ℕ) (r : Extent) → PlaceIs c None → Sent c r
+unfolding Sent Comes
+sent_past c r p module' t target value row i e = absurd (is_done c p (terms_of module') t i (comes module' c t (to_send target value row) i e).0.no_value)
 
+pub sending_past : (c old : List ℕ) (r : Next) → PlaceIs c None → SendNext c old old r
+unfolding SendNext Comes
+sending_past c old r p module' t target value row i e = absurd (is_done c p (terms_of module') t i (comes module' c t (to_send target value row) i e).0.no_value)
+
+module _ (c : List ℕ) (at : ℕ) (f : Finds c 0 1 (length c) at) where
   pub sent_is : (r : Extent) → r.from ≡ at + 1 + passed (drop (at + 1) c) 1 → r.to ≡ r.from + passed (drop r.from c) 1 → Sent c r
   unfolding Sent
   sent_is r ef et module' t target value row i e =
@@ -100,10 +104,6 @@ module _ (c : List ℕ) (at : ℕ) (f : Finds c 0 1 (length c) at) where
       let q = one_skip c r.from r.to s.sent v.rest et (plain_whole s.sent v.plain) v.here in
       let d : r.to - r.from ≡ length (words s.sent) = omega (arith, q) in
       ap₂ (λ (n : ℕ) (l : List ℕ). take n l) d v.here ∙ take-append_seam (words s.sent) v.rest ∙ s.value_is
-
-  pub sending_past : (old : List ℕ) (r : Next) → length c ≤ at → SendNext c old old r
-  unfolding SendNext
-  sending_past old r h module' t target value row i e = absurd (omega (arith, stands_within c at _ (send_at c at f module' t target value row i e).stands))
 
   pub sending_written : (old new : List ℕ) (from p : ℕ) (r : Next) → from ≡ at + 1 + passed (drop (at + 1) c) 1 → PutsCopy c at c from c (replicate 64 0) old new p → r ≡ fitted_of p (length old) → SendNext c old new r
   unfolding SendNext PutsCopy Puts

@@ -1,5 +1,5 @@
 -- Laws of a seq step of a whole control.
-use Prim.Native.Nat.{ℕ, ◌≤◌}
+use Prim.Native.Nat.{ℕ}
 use mathlib.Core.Path.{◌≡◌, refl, sym, ap, ap₂, ◌∙◌, subst}
 use mathlib.Core.Logic.{◌⊎◌, inl, inr}
 use mathlib.Core.Bool.{Bool, true, false, cond}
@@ -8,6 +8,7 @@ use mathlib.Core.List.{List}
 use native.Mathlib.Omega.{arith}
 use lib.Dec.{eqb}
 use lib.ListN.{length, get_or}
+use Rattle.std.specs.Prelude.{None, Err}
 use Rattle.lists.proofs.Tests.{true_or_false, cond_false, eqb_apart}
 use Rattle.term.specs.Words.{tag_of, tag_pid, tag_call, tag_apply, tag_case, tag_let, tag_receive, tag_spawn, tag_send, tag_self, tag_check}
 use Rattle.term.specs.Tree.{Term, Terms, int, node, end, ◌then◌, words}
@@ -21,13 +22,12 @@ use Rattle.machine.specs.Clauses.{first_clause}
 use Rattle.machine.specs.Place.{working}
 use Rattle.machine.specs.Work.{Work, finished, stuck, to_send, next, next_some, seq_or, let_gives, send_to, send_work, work_at, work}
 use Rattle.row_laws.specs.Rows.{Stands}
-use Rattle.copying.specs.Places.{Finds}
+use Rattle.copying.specs.Places.{Finds, PlaceIs}
 use Rattle.copying.specs.Nexts.{row_with}
-use Rattle.step.specs.Steps.{NextIs, CallNext, CaseNext, LetNext, ApplyNext}
+use Rattle.step.specs.Steps.{Next, NextIs, CallNext, CaseNext, LetNext, ApplyNext}
 use Rattle.step.specs.Controls.{Pair, Redex, ControlIs}
 use Rattle.step.specs.Becomes.{RowIs, SeqIs, SeqNext}
-use Rattle.step.specs.declared.step.Next.{Next}
-use Rattle.step.specs.declared.step.Next.TheVariants.{Nothing}
+use Rattle.step.specs.declared.step.NoNext.TheVariants.{Nothing}
 use Rattle.row_laws.proofs.RowTerms.{stands_within}
 use Rattle.step.proofs.RowWork.{work_reads, work_not, work_value, work_call, work_apply, work_case, work_let, operate_two, case_two, apply_gives, tag_of_lem}
 use Rattle.step.proofs.RowBecomes.{stands_there, row_is, as_row_is}
@@ -41,30 +41,30 @@ as_seq : (c : List ℕ) (at : ℕ) (w whole : Term) (o : Option Term) (old new :
 as_seq c at w whole o old new r e h = seq_row whole o old new r (as_row_is c at w whole o old new r e h)
 
 -- where nothing was written, any work but a seq step is told rightly
-quiet_either : (b : Bool) (w w' : Work) (old : List ℕ) → SeqIs w old old Nothing → SeqIs w' old old Nothing → SeqIs (cond b w w') old old Nothing
+quiet_either : (b : Bool) (w w' : Work) (old : List ℕ) → SeqIs w old old (Err Nothing) → SeqIs w' old old (Err Nothing) → SeqIs (cond b w w') old old (Err Nothing)
 quiet_either true w w' old p q = p
 quiet_either false w w' old p q = q
 
-quiet_send_to : (whole target v : Term) (old : List ℕ) → SeqIs (send_to whole target v) old old Nothing
+quiet_send_to : (whole target v : Term) (old : List ℕ) → SeqIs (send_to whole target v) old old (Err Nothing)
 unfolding send_to SeqIs
 quiet_send_to whole (int x) v old = (refl, refl)
 quiet_send_to whole (node tag n k ts) v old = go (eqb tag tag_pid)
   where
-    go : (b : Bool) → SeqIs (elim b [ true ↦ to_send k (words v) (next whole v) | false ↦ stuck ]) old old Nothing
+    go : (b : Bool) → SeqIs (elim b [ true ↦ to_send k (words v) (next whole v) | false ↦ stuck ]) old old (Err Nothing)
     go true = tt
     go false = (refl, refl)
 
-quiet_send : (whole : Term) (ts : Terms) (old : List ℕ) → SeqIs (send_work whole ts) old old Nothing
+quiet_send : (whole : Term) (ts : Terms) (old : List ℕ) → SeqIs (send_work whole ts) old old (Err Nothing)
 unfolding send_work SeqIs
 quiet_send whole end old = (refl, refl)
 quiet_send whole (t then end) old = (refl, refl)
 quiet_send whole (t then (v then ts)) old = quiet_send_to whole t v old
 
 quiet : (functions : Terms) (whole : Term) (tag n k : ℕ) (ts : Terms) (old : List ℕ) → ¬ (tag ≡ tag_call) → ¬ (tag ≡ tag_apply) → ¬ (tag ≡ tag_case) → ¬ (tag ≡ tag_let)
-    → SeqIs (work_at functions whole (node tag n k ts)) old old Nothing
+    → SeqIs (work_at functions whole (node tag n k ts)) old old (Err Nothing)
 unfolding work_at SeqIs
 quiet functions whole tag n k ts old a b d e =
-    subst (λ (w : Work). SeqIs w old old Nothing)
+    subst (λ (w : Work). SeqIs w old old (Err Nothing))
     (sym (cond_false _ _ (eqb_apart tag tag_call a) ∙ cond_false _ _ (eqb_apart tag tag_apply b) ∙ cond_false _ _ (eqb_apart tag tag_case d) ∙ cond_false _ _ (eqb_apart tag tag_let e)))
     (quiet_either (eqb tag tag_receive) _ _ old tt (quiet_either (eqb tag tag_spawn) _ _ old tt (quiet_either (eqb tag tag_send) _ _ old (quiet_send whole ts old)
     (quiet_either (eqb tag tag_self) _ _ old tt (quiet_either (eqb tag tag_check) _ _ old tt (refl, refl))))))
@@ -90,10 +90,6 @@ module _ (module' c : List ℕ) (at : ℕ) (f : Finds c 0 1 (length c) at) (old 
           let x = i.redex y in
           subst (λ (w : Work). SeqIs w old new r) (sym (work_reads module' c t i.read_as ∙ work_not (terms_of module') t y ∙ ap (work_at (terms_of module') t) x.is))
           (g y x (stands_there c at f (terms_of module') t i y) (row_is c at f (terms_of module') t i y))
-
-  pub seq_past : length c ≤ at → SeqNext module' c old old Nothing
-  unfolding SeqNext
-  seq_past h functions t m i = at_place old Nothing functions t i (λ y x s e. absurd (omega (arith, stands_within c at (working t) s)))
 
   module _ (g : ℕ) (eg : g ≡ tag_of (get_or c at 0)) where
     pub seq_call : g ≡ tag_call → (new : List ℕ) (r : Next) → CallNext c at old new r → SeqNext module' c old new r
@@ -137,8 +133,12 @@ module _ (module' c : List ℕ) (at : ℕ) (f : Finds c 0 1 (length c) at) (old 
         subst (λ (z : Work). SeqIs z old new r) (ap (seq_or t) (sym (let_gives_lem x.k x.children p.0)) ∙ sym (work_let (terms_of module') t x.tag x.n x.k x.children tg))
         (as_seq c at _ t (some (bind (with x.k p.0.one unbound) p.0.two)) old new r (λ u. ap (λ (z : Term). row_with c at z (words u)) (sym w) ∙ rows u) q))
 
-    pub seq_other : ¬ (g ≡ tag_call) → ¬ (g ≡ tag_apply) → ¬ (g ≡ tag_case) → ¬ (g ≡ tag_let) → SeqNext module' c old old Nothing
+    pub seq_other : ¬ (g ≡ tag_call) → ¬ (g ≡ tag_apply) → ¬ (g ≡ tag_case) → ¬ (g ≡ tag_let) → SeqNext module' c old old (Err Nothing)
     unfolding SeqNext
-    seq_other a b d e functions t m i = at_place old Nothing functions t i (λ y x s rows.
+    seq_other a b d e functions t m i = at_place old (Err Nothing) functions t i (λ y x s rows.
         let q = tag_of_lem c at g eg (terms_of module') (working t) s x in
         quiet (terms_of module') t x.tag x.n x.k x.children old (λ z. a (q ∙ z)) (λ z. b (q ∙ z)) (λ z. d (q ∙ z)) (λ z. e (q ∙ z)))
+
+pub seq_past : (module' c old : List ℕ) (r : Next) → PlaceIs c None → r ≡ Err Nothing → SeqNext module' c old old r
+unfolding SeqNext
+seq_past module' c old r p e functions t m i = subst (SeqIs (work module' c) old old) (sym e) (at_place module' c p.0 p.1 old old (Err Nothing) functions t i (λ y x s rows. absurd (omega (arith, p.2, stands_within c p.0 (working t) s))))

@@ -2,7 +2,7 @@
 use Prim.Native.Nat.{ℕ, ◌+◌, ◌<◌, ◌≤◌}
 use mathlib.Core.Path.{◌≡◌, refl, sym, ap, ◌∙◌, subst}
 use mathlib.Core.Bool.{Bool, true, false, cond, not}
-use mathlib.Core.Option.{Option, none, some}
+use mathlib.Core.Option.{Option as Maybe, none, some}
 use mathlib.Core.List.{List, [], ◌∷◌, ◌++◌, append_assoc}
 use native.Mathlib.Omega.{arith}
 use native.Mathlib.Decide.{dec_le}
@@ -10,6 +10,8 @@ use lib.Dec.{eqb}
 use lib.IntN.{ℤ, ◌+ℤ◌, ◌-ℤ◌, ◌*ℤ◌}
 use lib.Signed.{lt_z, le_z, quot_z, rem_z}
 use lib.ListN.{length, drop, get_or, set, replicate}
+use Rattle.std.specs.Prelude.{Option, Some, None, Ok, Err, IsErrAnd, ok_or}
+use Rattle.std.proofs.lemmas.Result.{err_from_is_err_and}
 use Rattle.lists.proofs.Tests.{leb_of, leb_over, cond_true, cond_false, none_not_some, some_injective, true_not_false}
 use Rattle.term.specs.Words.{tag_of, n_of, k_of, integer_word, tag_call, tag_case, tag_let, tag_receive}
 use Rattle.term.specs.Rows.{passed}
@@ -30,26 +32,47 @@ use Rattle.copying.specs.Copies.{Wrote}
 use Rattle.operands.specs.Operands.{is_long, LongIs, Gives, operate_both, Operates, StandsHere}
 use Rattle.choosing.specs.Clausal.{AreClauses, Takes, ChosenIs, ChoosesAt}
 use Rattle.copying.specs.Nexts.{row_with, Puts, PutsCopy}
-use Rattle.step.specs.Steps.{fitted_of, WroteNext, NextIs, CalledAt, CallNext, CasedAt, ClauseNext, CaseNext, LetNext, ReceiveNext}
+use Rattle.step.specs.Steps.{Next, fitted_of, WroteNext, NextIs, CalledAt, CallNext, CasedAt, ClauseNext, CaseNext, LetNext, ReceiveNext}
 use Rattle.operands.specs.declared.operand.Operand.{Operand}
-use Rattle.operands.specs.declared.operand.Operand.TheVariants.{Short, Here, There, Stuck}
-use Rattle.choosing.specs.declared.clause.Chosen.{Chosen}
-use Rattle.choosing.specs.declared.clause.Chosen.TheVariants.{Clause, Nothing}
-use Rattle.step.specs.declared.step.Next.{Next}
-use Rattle.step.specs.declared.step.Next.TheVariants.{Nothing as no_next, TooLarge, Row}
+use Rattle.operands.specs.declared.operand.Operand.TheVariants.{Short, Here, There}
+use Rattle.step.specs.declared.step.NoNext.{NoNext}
+use Rattle.step.specs.declared.step.NoNext.TheVariants.{Nothing, TooLarge}
 use Rattle.row_laws.proofs.RowTerms.{node_at, one_skip, past_term, plain_whole, stands_within, as_row, one_term}
 use Rattle.copying.proofs.RowMatch.{bound_more}
-use Rattle.operands.proofs.RowOperand.{short_is_node, short_is_integer, gives_short, gives_here, gives_there, gives_stuck}
+use Rattle.operands.proofs.RowOperand.{short_is_node, short_is_integer, gives_short, gives_stuck}
 use Rattle.choosing.proofs.RowClause.{parts_at, nothing_bound, takes_is, when_holds, body_under, matched_one}
 
--- ---- whether a row fits
-pub fitted_row : (r room : ℕ) → r ≤ room → Row r ≡ fitted_of r room
-unfolding fitted_of
-fitted_row r room h = sym (cond_true (Row r) TooLarge (leb_of r room h))
+-- ---- what `ok_or` and `?` make of an Option
+module _ {A : Type 0} (o : Option A) where
+  pub some_from : (x : A) → Ok x ≡ ok_or o Nothing → o ≡ Some x
+  some_from x e = go o e
+    where
+      go : (p : Option A) → Ok x ≡ ok_or p Nothing → p ≡ Some x
+      go None q = cc
+      go (Some y) q = cc
 
-pub fitted_large : (r room : ℕ) → room < r → TooLarge ≡ fitted_of r room
+  pub none_from : (e : NoNext) → Err e ≡ ok_or o Nothing → o ≡ None
+  none_from e q = go o q
+    where
+      go : (p : Option A) → Err e ≡ ok_or p Nothing → p ≡ None
+      go None q = refl
+      go (Some y) q = cc
+
+  pub error_from : (e : NoNext) (r : Next) → Err e ≡ ok_or o Nothing → IsErrAnd r (λ d. d ≡ e) → r ≡ Err Nothing
+  error_from e r q h = go o q
+    where
+      go : (p : Option A) → Err e ≡ ok_or p Nothing → r ≡ Err Nothing
+      go None q = let k = err_from_is_err_and r h in let i : r ≡ Err k.0 = k.1 in let j : k.0 ≡ e = k.2 in cc
+      go (Some y) q = cc
+
+-- ---- whether a row fits
+pub fitted_row : (r room : ℕ) → r ≤ room → Ok r ≡ fitted_of r room
 unfolding fitted_of
-fitted_large r room h = sym (cond_false (Row r) TooLarge (leb_over r room h))
+fitted_row r room h = sym (cond_true (Ok r) (Err TooLarge) (leb_of r room h))
+
+pub fitted_large : (r room : ℕ) → room < r → Err TooLarge ≡ fitted_of r room
+unfolding fitted_of
+fitted_large r room h = sym (cond_false (Ok r) (Err TooLarge) (leb_over r room h))
 
 pub wrote_next : (row old new : List ℕ) (m : ℕ) (s : Next) → Wrote row 0 old new m → s ≡ fitted_of m (length old) → WroteNext row old new s
 wrote_next row old new m s w e = record { new_is = w.new_is; answer = e ∙ go (dec_le (length row) (length old)) }
@@ -58,13 +81,13 @@ wrote_next row old new m s w e = record { new_is = w.new_is; answer = e ∙ go (
     go (yes h) = ap (λ (j : ℕ). fitted_of j (length old)) (omega (arith, w.ends))
     go (no h) = sym (fitted_large m (length old) (omega (arith, w.ends))) ∙ fitted_large (length row) (length old) (omega arith)
 
-pub next_some : (c : List ℕ) (at : ℕ) (t u : Term) (o : Option Term) (old new : List ℕ) (s : Next) → o ≡ some u → WroteNext (row_with c at t (words u)) old new s → NextIs c at t o old new s
+pub next_some : (c : List ℕ) (at : ℕ) (t u : Term) (o : Maybe Term) (old new : List ℕ) (s : Next) → o ≡ some u → WroteNext (row_with c at t (words u)) old new s → NextIs c at t o old new s
 unfolding NextIs
-next_some c at t u o old new s e w = subst (λ (p : Option Term). NextIs c at t p old new s) (sym e) w
+next_some c at t u o old new s e w = subst (λ (p : Maybe Term). NextIs c at t p old new s) (sym e) w
 
-next_none : (c : List ℕ) (at : ℕ) (t : Term) (o : Option Term) (old : List ℕ) → o ≡ none → NextIs c at t o old old no_next
+next_none : (c : List ℕ) (at : ℕ) (t : Term) (o : Maybe Term) (old : List ℕ) (s : Next) → s ≡ Err Nothing → o ≡ none → NextIs c at t o old old s
 unfolding NextIs
-next_none c at t o old e = subst (λ (p : Option Term). NextIs c at t p old old no_next) (sym e) (refl, refl)
+next_none c at t o old s es e = subst (λ (p : Maybe Term). NextIs c at t p old old s) (sym e) (es, refl)
 
 -- ---- the children of a node in its row
 pub record ChildrenAt (c : List ℕ) (at tag n k : ℕ) (ts : Terms) : Type 0 where
@@ -97,11 +120,11 @@ others_plain t ts p = p.1
 
 -- ---- call
 module _ (c : List ℕ) (at : ℕ) where
-  pub called_past : (r : Operand) → length c ≤ at → CalledAt c at r
+  pub called_past : (r : Option Operand) → length c ≤ at → CalledAt c at r
   unfolding CalledAt
   called_past r h n k a b s va vb = absurd (omega (arith, stands_within c at _ s))
 
-  pub called_is : (x y r : Operand) (second kk : ℕ) → StandsHere c (at + 1) x → second ≡ at + 1 + passed (drop (at + 1) c) 1 → StandsHere c second y → kk ≡ k_of (get_or c at 0) → Operates c c kk x y r → CalledAt c at r
+  pub called_is : (x y r : Option Operand) (second kk : ℕ) → StandsHere c (at + 1) x → second ≡ at + 1 + passed (drop (at + 1) c) 1 → StandsHere c second y → kk ≡ k_of (get_or c at 0) → Operates c c kk x y r → CalledAt c at r
   unfolding CalledAt StandsHere Operates operate_both operate_some before_some operate_on
   called_is x y r second kk hx es hy ek op n k a b s va vb =
       let q = children_at c at tag_call n k (a then (b then end)) s in
@@ -110,7 +133,7 @@ module _ (c : List ℕ) (at : ℕ) where
       subst (λ (j : ℕ). Gives c c r (operate j a b)) (ek ∙ q.k_is) (op (some a) (some b) (hx c a sa va) (hy c b sb vb))
 
 -- what an operator gives is no cons or tuple
-unfoldable ShortOnly : Option Term → Type 0
+unfoldable ShortOnly : Maybe Term → Type 0
 ShortOnly o = (t : Term) → o ≡ some t → is_long t ≡ false
 
 short_none : ShortOnly none
@@ -121,7 +144,7 @@ short_some : (u : Term) → is_long u ≡ false → ShortOnly (some u)
 unfolding ShortOnly
 short_some u h t e = ap is_long (sym (some_injective e)) ∙ h
 
-either : (b : Bool) (o p : Option Term) → ShortOnly o → ShortOnly p → ShortOnly (cond b o p)
+either : (b : Bool) (o p : Maybe Term) → ShortOnly o → ShortOnly p → ShortOnly (cond b o p)
 either true o p h g = h
 either false o p h g = g
 
@@ -173,41 +196,43 @@ node_word : (w : ℕ) → words (node (tag_of w) (n_of w) (k_of w) end) ≡ w �
 unfolding words words_of
 node_word w = ap (λ (j : ℕ). j ∷ []) (word_parts w)
 
-module _ (c : List ℕ) (at : ℕ) (old : List ℕ) (r : Operand) (g : CalledAt c at r) where
-  module _ (w x : ℕ) (e : r ≡ Short w x) (new : List ℕ) (m : ℕ) (s : Next) (es : s ≡ fitted_of m (length old)) where
-    pub call_integer : w ≡ integer_word → Puts c at (integer_word ∷ x ∷ []) old new m → CallNext c at old new s
-    unfolding CalledAt CallNext Puts
-    call_integer i p n k a b st va vb =
-        let q = gives_short r w x e c c _ (g n k a b st va vb) in
-        next_some c at _ (int x) _ old new s (q.gives ∙ ap some (short_is_integer w x i))
-        (wrote_next _ old new m s (subst (λ (ws : List ℕ). Wrote (row_with c at (node tag_call n k (a then (b then end))) ws) 0 old new m) (sym (integer_words x)) (p _ st)) es)
-
-    pub call_word : ¬ (w ≡ integer_word) → Puts c at (w ∷ []) old new m → CallNext c at old new s
-    unfolding CalledAt CallNext Puts
-    call_word i p n k a b st va vb =
-        let q = gives_short r w x e c c _ (g n k a b st va vb) in
-        next_some c at _ (node (tag_of w) (n_of w) (k_of w) end) _ old new s (q.gives ∙ ap some (short_is_node w x i))
-        (wrote_next _ old new m s (subst (λ (ws : List ℕ). Wrote (row_with c at (node tag_call n k (a then (b then end))) ws) 0 old new m) (sym (node_word w)) (p _ st)) es)
-
-  pub call_here : (i : ℕ) → r ≡ Here i → CallNext c at old old no_next
+module _ (c : List ℕ) (at : ℕ) (old : List ℕ) (r : Option Operand) (g : CalledAt c at r) where
+  pub call_stuck : r ≡ None → (s : Next) → s ≡ Err Nothing → CallNext c at old old s
   unfolding CalledAt CallNext
-  call_here i e n k a b st va vb = absurd (never_long c i k a b (gives_here r i e c c _ (g n k a b st va vb)))
+  call_stuck e s es n k a b st va vb = next_none c at _ _ old s es (gives_stuck r e c c _ (g n k a b st va vb))
 
-  pub call_there : (i : ℕ) → r ≡ There i → CallNext c at old old no_next
-  unfolding CalledAt CallNext
-  call_there i e n k a b st va vb = absurd (never_long c i k a b (gives_there r i e c c _ (g n k a b st va vb)))
+  module _ (v : Operand) (ev : r ≡ Some v) where
+    pub call_long : ((w x : ℕ) → v ≡ Short w x → ⊥) → CallNext c at old old (Err Nothing)
+    unfolding CalledAt CallNext Gives
+    call_long d n k a b st va vb = absurd (go v d (subst (λ (z : Option Operand). Gives c c z (operate k a b)) ev (g n k a b st va vb)))
+      where
+        go : (z : Operand) → ((w x : ℕ) → z ≡ Short w x → ⊥) → Gives c c (Some z) (operate k a b) → ⊥
+        go (Short w x) d l = d w x refl
+        go (Here i) d l = never_long c i k a b l
+        go (There i) d l = never_long c i k a b l
 
-  pub call_stuck : r ≡ Stuck → CallNext c at old old no_next
-  unfolding CalledAt CallNext
-  call_stuck e n k a b st va vb = next_none c at _ _ old (gives_stuck r e c c _ (g n k a b st va vb))
+    module _ (w x : ℕ) (e : v ≡ Short w x) (new : List ℕ) (m : ℕ) (s : Next) (es : s ≡ fitted_of m (length old)) where
+      pub call_integer : w ≡ integer_word → Puts c at (integer_word ∷ x ∷ []) old new m → CallNext c at old new s
+      unfolding CalledAt CallNext Puts
+      call_integer i p n k a b st va vb =
+          let q = gives_short r w x (ev ∙ ap Some e) c c _ (g n k a b st va vb) in
+          next_some c at _ (int x) _ old new s (q.gives ∙ ap some (short_is_integer w x i))
+          (wrote_next _ old new m s (subst (λ (ws : List ℕ). Wrote (row_with c at (node tag_call n k (a then (b then end))) ws) 0 old new m) (sym (integer_words x)) (p _ st)) es)
+
+      pub call_word : ¬ (w ≡ integer_word) → Puts c at (w ∷ []) old new m → CallNext c at old new s
+      unfolding CalledAt CallNext Puts
+      call_word i p n k a b st va vb =
+          let q = gives_short r w x (ev ∙ ap Some e) c c _ (g n k a b st va vb) in
+          next_some c at _ (node (tag_of w) (n_of w) (k_of w) end) _ old new s (q.gives ∙ ap some (short_is_node w x i))
+          (wrote_next _ old new m s (subst (λ (ws : List ℕ). Wrote (row_with c at (node tag_call n k (a then (b then end))) ws) 0 old new m) (sym (node_word w)) (p _ st)) es)
 
 -- ---- case
 module _ (c : List ℕ) (at : ℕ) where
-  pub cased_past : (r : Chosen) → length c ≤ at → CasedAt c at r
+  pub cased_past : (r : Option ℕ) → length c ≤ at → CasedAt c at r
   unfolding CasedAt
   cased_past r h n k subject clauses s v i m = absurd (omega (arith, stands_within c at _ s))
 
-  pub cased_is : (r : Chosen) (next nn : ℕ) → next ≡ at + 1 + passed (drop (at + 1) c) 1 → nn ≡ n_of (get_or c at 0) → ChoosesAt c next nn c (at + 1) r → CasedAt c at r
+  pub cased_is : (r : Option ℕ) (next nn : ℕ) → next ≡ at + 1 + passed (drop (at + 1) c) 1 → nn ≡ n_of (get_or c at 0) → ChoosesAt c next nn c (at + 1) r → CasedAt c at r
   unfolding CasedAt ChoosesAt
   cased_is r next nn en ek h n k subject clauses s v i m =
       let q = children_at c at tag_case n k (subject then clauses) s in
@@ -223,21 +248,21 @@ two_skip c at r t u rest e p q d =
     ap (λ (j : ℕ). drop j c) z ∙ past_term c (at + length (words t)) u rest (past_term c at t (words u ++ rest) d)
 
 -- what the pattern bound, where the clause takes the value
-found : (v env : List ℕ) (guard body taken : Term) (o : Option Bindings) (b : Bool) → Matched v env o b → body_under o guard body ≡ some taken
+found : (v env : List ℕ) (guard body taken : Term) (o : Maybe Bindings) (b : Bool) → Matched v env o b → body_under o guard body ≡ some taken
     → (bindings : Bindings) × (bind bindings body ≡ taken) × Bound v env bindings
 unfolding Matched
-found v env guard body taken o true m e = (m.0, held (guard_holds (bind m.0 guard)) (bind m.0 body) (sym (ap (λ (p : Option Bindings). body_under p guard body) m.1) ∙ e), m.2)
+found v env guard body taken o true m e = (m.0, held (guard_holds (bind m.0 guard)) (bind m.0 body) (sym (ap (λ (p : Maybe Bindings). body_under p guard body) m.1) ∙ e), m.2)
   where
     held : (h : Bool) (t : Term) → when_holds h t ≡ some taken → t ≡ taken
     held true t q = some_injective q
     held false t q = none_not_some q
-found v env guard body taken o false m e = none_not_some (sym (ap (λ (p : Option Bindings). body_under p guard body) m) ∙ e)
+found v env guard body taken o false m e = none_not_some (sym (ap (λ (p : Maybe Bindings). body_under p guard body) m) ∙ e)
 
-pub chosen_clause : (c : List ℕ) (u : Term) (clauses : Terms) (r : Chosen) (i : ℕ) → r ≡ Clause i → ChosenIs c u clauses r → Takes c i u clauses
+pub chosen_clause : (c : List ℕ) (u : Term) (clauses : Terms) (r : Option ℕ) (i : ℕ) → r ≡ Some i → ChosenIs c u clauses r → Takes c i u clauses
 unfolding ChosenIs
 chosen_clause c u clauses r i e h = subst (ChosenIs c u clauses) e h
 
-pub chosen_nothing : (c : List ℕ) (u : Term) (clauses : Terms) (r : Chosen) → r ≡ Nothing → ChosenIs c u clauses r → first_clause u clauses ≡ none
+pub chosen_nothing : (c : List ℕ) (u : Term) (clauses : Terms) (r : Option ℕ) → r ≡ None → ChosenIs c u clauses r → first_clause u clauses ≡ none
 unfolding ChosenIs
 chosen_nothing c u clauses r e h = subst (ChosenIs c u clauses) e h
 
@@ -257,7 +282,7 @@ module _ (c : List ℕ) (at clause : ℕ) (v : List ℕ) (va : ℕ) (old : List 
 
 -- ---- case and receive
 module _ (c : List ℕ) (at : ℕ) (old : List ℕ) where
-  pub case_clause : (r : Chosen) (i : ℕ) (new : List ℕ) (m : ℕ) (s : Next) → CasedAt c at r → r ≡ Clause i → ClauseNext c at i c (at + 1) old new m → s ≡ fitted_of m (length old) → CaseNext c at old new s
+  pub case_clause : (r : Option ℕ) (i : ℕ) (new : List ℕ) (m : ℕ) (s : Next) → CasedAt c at r → r ≡ Some i → ClauseNext c at i c (at + 1) old new m → s ≡ fitted_of m (length old) → CaseNext c at old new s
   unfolding CasedAt CaseNext ClauseNext
   case_clause r i new m s g e h es n k subject clauses st v a z =
       let t = chosen_clause c subject clauses r i e (g n k subject clauses st v a z) in
@@ -265,40 +290,40 @@ module _ (c : List ℕ) (at : ℕ) (old : List ℕ) where
       next_some c at _ t.body _ old new s t.first
       (wrote_next _ old new m s (h _ subject t.clause t.body st t.stands t.is_clause (first_stands c (at + 1) subject clauses q.rest q.plain q.on) v t.takes) es)
 
-  pub case_nothing : (r : Chosen) → CasedAt c at r → r ≡ Nothing → CaseNext c at old old no_next
+  pub case_nothing : (r : Option ℕ) → CasedAt c at r → r ≡ None → (s : Next) → s ≡ Err Nothing → CaseNext c at old old s
   unfolding CasedAt CaseNext
-  case_nothing r g e n k subject clauses st v a z = next_none c at _ _ old (chosen_nothing c subject clauses r e (g n k subject clauses st v a z))
+  case_nothing r g e s es n k subject clauses st v a z = next_none c at _ _ old s es (chosen_nothing c subject clauses r e (g n k subject clauses st v a z))
 
   module _ (v : List ℕ) where
-    pub receive_past : length c ≤ at → ReceiveNext c at v old old no_next
+    pub receive_past : length c ≤ at → ReceiveNext c at v old old (Err Nothing)
     unfolding ReceiveNext
     receive_past h n k clauses u s a z w y = absurd (omega (arith, stands_within c at _ s))
 
-    module _ (r : Chosen) (nn : ℕ) (en : nn ≡ n_of (get_or c at 0)) (g : ChoosesAt c (at + 1) nn v 0 r) where
+    module _ (r : Option ℕ) (nn : ℕ) (en : nn ≡ n_of (get_or c at 0)) (g : ChoosesAt c (at + 1) nn v 0 r) where
       receives : (n k : ℕ) (clauses : Terms) (u : Term) → Stands c at (node tag_receive n k clauses) → AreClauses clauses → count clauses ≡ n → Stands v 0 u → is_value u ≡ true → ChosenIs c u clauses r
       unfolding ChoosesAt
       receives n k clauses u s a z w y =
           let q = children_at c at tag_receive n k clauses s in
           g clauses q.rest u q.plain a (z ∙ sym (en ∙ q.n_is)) q.on w y
 
-      pub receive_clause : (i : ℕ) (new : List ℕ) (m : ℕ) (s : Next) → r ≡ Clause i → ClauseNext c at i v 0 old new m → s ≡ fitted_of m (length old) → ReceiveNext c at v old new s
+      pub receive_clause : (i : ℕ) (new : List ℕ) (m : ℕ) (s : Next) → r ≡ Some i → ClauseNext c at i v 0 old new m → s ≡ fitted_of m (length old) → ReceiveNext c at v old new s
       unfolding ReceiveNext ClauseNext
       receive_clause i new m s e h es n k clauses u st a z w y =
           let t = chosen_clause c u clauses r i e (receives n k clauses u st a z w y) in
           next_some c at _ t.body _ old new s t.first (wrote_next _ old new m s (h _ u t.clause t.body st t.stands t.is_clause w y t.takes) es)
 
-      pub receive_nothing : r ≡ Nothing → ReceiveNext c at v old old no_next
+      pub receive_nothing : r ≡ None → (s : Next) → s ≡ Err Nothing → ReceiveNext c at v old old s
       unfolding ReceiveNext
-      receive_nothing e n k clauses u st a z w y = next_none c at _ _ old (chosen_nothing c u clauses r e (receives n k clauses u st a z w y))
+      receive_nothing e s es n k clauses u st a z w y = next_none c at _ _ old s es (chosen_nothing c u clauses r e (receives n k clauses u st a z w y))
 
 -- ---- let
 module _ (c : List ℕ) (at : ℕ) (old : List ℕ) where
-  pub let_past : length c ≤ at → LetNext c at old old no_next
+  pub let_past : length c ≤ at → LetNext c at old old (Err Nothing)
   unfolding LetNext
   let_past h n k bound body s v l = absurd (omega (arith, stands_within c at _ s))
 
   module _ (x : ℕ) (ex : x ≡ k_of (get_or c at 0)) where
-    pub let_high : 64 ≤ x → LetNext c at old old no_next
+    pub let_high : 64 ≤ x → LetNext c at old old (Err Nothing)
     unfolding LetNext
     let_high h n k bound body s v l = absurd (omega (arith, (children_at c at tag_let n k (bound then (body then end)) s).k_is))
 

@@ -3,10 +3,11 @@ use Prim.Native.Nat.{ℕ, ◌+◌, ◌-◌, ◌<◌, ◌≤◌}
 use mathlib.Core.Path.{◌≡◌, refl, sym, ap, ap₂, ◌∙◌, subst}
 use mathlib.Core.Logic.{◌⊎◌, inl, inr}
 use mathlib.Core.Bool.{true, false, cond}
-use mathlib.Core.Option.{Option, none, some}
+use mathlib.Core.Option.{Option as Maybe, none, some}
 use mathlib.Core.List.{List, [], ◌++◌, append-nil}
 use native.Mathlib.Omega.{arith}
 use lib.ListN.{length, get_or}
+use Rattle.std.specs.Prelude.{Option, Some, None}
 use Rattle.lists.proofs.Tests.{eqb_apart, true_or_false, cond_true, cond_false, choose_true, choose_false}
 use Rattle.term.specs.Words.{tag_of, k_of, tag_pid, tag_call, tag_apply, tag_case, tag_let, tag_receive, tag_spawn, tag_send, tag_self, tag_check}
 use Rattle.term.specs.Tree.{Term, Terms, int, node, end, ◌then◌, words, words_of, count, WholeAll}
@@ -20,25 +21,22 @@ use Rattle.machine.specs.Clauses.{first_clause}
 use Rattle.machine.specs.Place.{working}
 use Rattle.machine.specs.Work.{Work, finished, stuck, to_send, next, seq_or, body_with, case_gives, let_gives, send_to, send_work, work_at, work_of, work}
 use Rattle.row_laws.specs.Rows.{Stands, Plain}
-use Rattle.copying.specs.Places.{place_of, place_among, Finds}
+use Rattle.copying.specs.Places.{place_of, place_among, Finds, PlaceIs}
 use Rattle.step.specs.Steps.{CalledAt, CasedAt}
 use Rattle.step.specs.Controls.{Pair, Applied, Redex, doing_of, doing_seq, CallDoing, CaseDoing, SendDoing, DoingAt, DoingOf}
 use Rattle.operands.specs.declared.operand.Operand.{Operand}
-use Rattle.operands.specs.declared.operand.Operand.TheVariants.{Short, Here, There, Stuck as no_operand}
-use Rattle.choosing.specs.declared.clause.Chosen.{Chosen}
-use Rattle.choosing.specs.declared.clause.Chosen.TheVariants.{Clause, Nothing}
 use Rattle.step.specs.declared.work.Doing.{Doing}
 use Rattle.step.specs.declared.work.Doing.TheVariants.{Finished, Stuck, Seq, Send, Receive, Spawn, Own, Check}
 use Rattle.row_laws.proofs.RowTerms.{node_at, integer_at, plain_whole, stands_within, as_row, one_term, head_of}
-use Rattle.operands.proofs.RowOperand.{gives_short, gives_here, gives_there, gives_stuck}
+use Rattle.operands.proofs.RowOperand.{gives_some, gives_stuck}
 use Rattle.step.proofs.RowStep.{children_at, first_stands, chosen_clause, chosen_nothing}
 use Rattle.step.proofs.RowSplit.{working_stands}
 
-seq_some : (o : Option Term) (t : Term) → o ≡ some t → Seq ≡ doing_seq o
+seq_some : (o : Maybe Term) (t : Term) → o ≡ some t → Seq ≡ doing_seq o
 unfolding doing_seq
 seq_some o t e = rw e
 
-seq_none : (o : Option Term) → o ≡ none → Stuck ≡ doing_seq o
+seq_none : (o : Maybe Term) → o ≡ none → Stuck ≡ doing_seq o
 unfolding doing_seq
 seq_none o e = rw e
 
@@ -47,31 +45,23 @@ unfolding doing_of
 stuck_is = refl
 
 -- ---- call, case and send
-module _ (c : List ℕ) (at : ℕ) (r : Operand) (g : CalledAt c at r) where
-  pub doing_stuck : r ≡ no_operand → CallDoing c at Stuck
+module _ (c : List ℕ) (at : ℕ) (r : Option Operand) (g : CalledAt c at r) where
+  pub call_stuck : r ≡ None → CallDoing c at Stuck
   unfolding CalledAt CallDoing
-  doing_stuck e n k a b s va vb = seq_none _ (gives_stuck r e c c _ (g n k a b s va vb))
+  call_stuck e n k a b s va vb = seq_none _ (gives_stuck r e c c _ (g n k a b s va vb))
 
-  pub doing_short : (w x : ℕ) → r ≡ Short w x → CallDoing c at Seq
+  pub call_goes : (v : Operand) → r ≡ Some v → CallDoing c at Seq
   unfolding CalledAt CallDoing
-  doing_short w x e n k a b s va vb = seq_some _ _ (gives_short r w x e c c _ (g n k a b s va vb)).gives
+  call_goes v e n k a b s va vb = let q = gives_some r v e c c _ (g n k a b s va vb) in seq_some _ q.0 q.1
 
-  pub doing_here : (i : ℕ) → r ≡ Here i → CallDoing c at Seq
-  unfolding CalledAt CallDoing
-  doing_here i e n k a b s va vb = seq_some _ _ (gives_here r i e c c _ (g n k a b s va vb)).gives
-
-  pub doing_there : (i : ℕ) → r ≡ There i → CallDoing c at Seq
-  unfolding CalledAt CallDoing
-  doing_there i e n k a b s va vb = seq_some _ _ (gives_there r i e c c _ (g n k a b s va vb)).gives
-
-module _ (c : List ℕ) (at : ℕ) (r : Chosen) (g : CasedAt c at r) where
-  pub doing_clause : (i : ℕ) → r ≡ Clause i → CaseDoing c at Seq
+module _ (c : List ℕ) (at : ℕ) (r : Option ℕ) (g : CasedAt c at r) where
+  pub case_goes : (i : ℕ) → r ≡ Some i → CaseDoing c at Seq
   unfolding CasedAt CaseDoing
-  doing_clause i e n k subject clauses s v a m = seq_some _ _ (chosen_clause c subject clauses r i e (g n k subject clauses s v a m)).first
+  case_goes i e n k subject clauses s v a m = seq_some _ _ (chosen_clause c subject clauses r i e (g n k subject clauses s v a m)).first
 
-  pub doing_nothing : r ≡ Nothing → CaseDoing c at Stuck
+  pub case_stuck : r ≡ None → CaseDoing c at Stuck
   unfolding CasedAt CaseDoing
-  doing_nothing e n k subject clauses s v a m = seq_none _ (chosen_nothing c subject clauses r e (g n k subject clauses s v a m))
+  case_stuck e n k subject clauses s v a m = seq_none _ (chosen_nothing c subject clauses r e (g n k subject clauses s v a m))
 
 send_pid : (whole v : Term) (tag n k : ℕ) (ts : Terms) → tag ≡ tag_pid → Send k ≡ doing_of (send_to whole (node tag n k ts) v)
 unfolding send_to doing_of
@@ -115,7 +105,7 @@ module _ (c : List ℕ) (at : ℕ) where
             send_other whole v tag m i ts (λ z. d (et ∙ q.tag_is ∙ z))
 
 -- ---- what is done at the working place, by the tag
-doing_seq_or : (whole : Term) (o : Option Term) → doing_of (seq_or whole o) ≡ doing_seq o
+doing_seq_or : (whole : Term) (o : Maybe Term) → doing_of (seq_or whole o) ≡ doing_seq o
 unfolding doing_of doing_seq seq_or
 doing_seq_or whole none = refl
 doing_seq_or whole (some t) = refl
@@ -213,7 +203,7 @@ module _ (c : List ℕ) (at : ℕ) where
         by functions whole w x r (g x.n x.k p.0.one p.0.two st p.1 p.2 ∙ ap doing_seq (sym (operate_two x.k x.children p.0)) ∙ sym (doing_seq_or whole (operate_on x.k x.children))
         ∙ ap doing_of (sym (work_call functions whole x.tag x.n x.k x.children tg)))
 
-    pub at_apply : t ≡ tag_apply → DoingAt c at Seq
+    at_apply : t ≡ tag_apply → DoingAt c at Seq
     unfolding DoingAt
     at_apply e functions whole w s x =
         let tg : x.tag ≡ tag_apply = sym (tag_of_lem functions w s x) ∙ e in
@@ -229,12 +219,16 @@ module _ (c : List ℕ) (at : ℕ) where
         by functions whole w x r (g x.n x.k p.0 p.1 st p.3 p.4 p.5 ∙ ap doing_seq (sym (case_two x.children p.0 p.1 p.2)) ∙ sym (doing_seq_or whole (case_gives x.children))
         ∙ ap doing_of (sym (work_case functions whole x.tag x.n x.k x.children tg)))
 
-    pub at_let : t ≡ tag_let → DoingAt c at Seq
+    at_let : t ≡ tag_let → DoingAt c at Seq
     unfolding DoingAt
     at_let e functions whole w s x =
         let tg : x.tag ≡ tag_let = sym (tag_of_lem functions w s x) ∙ e in
         let p = let_two x.k x.children (x.of_let tg).0 in
         by functions whole w x Seq (seq_some _ p.0 p.1 ∙ sym (doing_seq_or whole (let_gives x.k x.children)) ∙ ap doing_of (sym (work_let functions whole x.tag x.n x.k x.children tg)))
+
+    pub at_seq : (t ≡ tag_apply) ⊎ (t ≡ tag_let) → DoingAt c at Seq
+    at_seq (inl e) = at_apply e
+    at_seq (inr e) = at_let e
 
     pub at_receive : t ≡ tag_receive → DoingAt c at Receive
     unfolding DoingAt
@@ -261,12 +255,12 @@ module _ (c : List ℕ) (at : ℕ) where
     at_check e j ej functions whole w s x =
         by functions whole w x (Check j) (ap Check (ej ∙ (head_is functions w s x).1) ∙ work_check functions whole x.tag x.n x.k x.children (sym (tag_of_lem functions w s x) ∙ e))
 
-    pub at_other : ¬ (t ≡ tag_call) → ¬ (t ≡ tag_apply) → ¬ (t ≡ tag_case) → ¬ (t ≡ tag_let) → ¬ (t ≡ tag_receive) → ¬ (t ≡ tag_spawn) → ¬ (t ≡ tag_send) → ¬ (t ≡ tag_self) → ¬ (t ≡ tag_check) → DoingAt c at Stuck
+    pub at_other : ¬ (t ≡ tag_call) → ¬ ((t ≡ tag_apply) ⊎ (t ≡ tag_let)) → ¬ (t ≡ tag_case) → ¬ (t ≡ tag_receive) → ¬ (t ≡ tag_spawn) → ¬ (t ≡ tag_send) → ¬ (t ≡ tag_self) → ¬ (t ≡ tag_check) → DoingAt c at Stuck
     unfolding DoingAt
-    at_other a b d e f g h i j functions whole w s x =
+    at_other a b d f g h i j functions whole w s x =
         let q = tag_of_lem functions w s x in
         by functions whole w x Stuck (stuck_is ∙ ap doing_of (sym (work_other functions whole x.tag x.n x.k x.children
-        (λ z. a (q ∙ z)) (λ z. b (q ∙ z)) (λ z. d (q ∙ z)) (λ z. e (q ∙ z)) (λ z. f (q ∙ z)) (λ z. g (q ∙ z)) (λ z. h (q ∙ z)) (λ z. i (q ∙ z)) (λ z. j (q ∙ z)))))
+        (λ z. a (q ∙ z)) (λ z. b (inl (q ∙ z))) (λ z. d (q ∙ z)) (λ z. b (inr (q ∙ z))) (λ z. f (q ∙ z)) (λ z. g (q ∙ z)) (λ z. h (q ∙ z)) (λ z. i (q ∙ z)) (λ z. j (q ∙ z)))))
 
 -- ---- a whole control
 pub work_value : (functions : Terms) (t : Term) → is_value t ≡ true → work_of functions t ≡ finished
@@ -290,24 +284,24 @@ pub work_reads : (module' c : List ℕ) (t : Term) → term_of c ≡ t → work 
 unfolding work
 work_reads module' c t e = ap (work_of (terms_of module')) e
 
-module _ (c : List ℕ) (at : ℕ) (f : Finds c 0 1 (length c) at) where
-  pub about_finished : length c ≤ at → DoingOf c Finished
+module _ (c : List ℕ) where
+  pub about_finished : PlaceIs c None → DoingOf c Finished
   unfolding DoingOf
-  about_finished h module' t i = go (true_or_false (is_value t))
+  about_finished f module' t i = go (true_or_false (is_value t))
     where
       go : (is_value t ≡ true) ⊎ (is_value t ≡ false) → Finished ≡ doing_of (work module' c)
       go (inl v) = finished_is (work module' c) (work_reads module' c t i.read_as ∙ work_value (terms_of module') t v)
       go (inr v) =
-          let p = found_place c at t f i.same_words i.plain ∙ cond_false (length c) (place_of t 0) v in
-          absurd (omega (arith, p, stands_within c (place_of t 0) (working t) (working_stands t c i.same_words i.plain)))
+          let p = found_place c f.0 t f.1 i.same_words i.plain ∙ cond_false (length c) (place_of t 0) v in
+          absurd (omega (arith, p, f.2, stands_within c (place_of t 0) (working t) (working_stands t c i.same_words i.plain)))
 
-  pub about_going : at < length c → (r : Doing) → DoingAt c at r → DoingOf c r
+  pub about_going : (at : ℕ) → PlaceIs c (Some at) → (r : Doing) → DoingAt c at r → DoingOf c r
   unfolding DoingOf DoingAt
-  about_going h r g module' t i = go (true_or_false (is_value t))
+  about_going at f r g module' t i = go (true_or_false (is_value t))
     where
       go : (is_value t ≡ true) ⊎ (is_value t ≡ false) → r ≡ doing_of (work module' c)
-      go (inl v) = let p = found_place c at t f i.same_words i.plain ∙ cond_true (length c) (place_of t 0) v in absurd (omega (arith, p))
+      go (inl v) = let p = found_place c at t f.0 i.same_words i.plain ∙ cond_true (length c) (place_of t 0) v in absurd (omega (arith, p, f.1))
       go (inr v) =
-          let p = found_place c at t f i.same_words i.plain ∙ cond_false (length c) (place_of t 0) v in
+          let p = found_place c at t f.0 i.same_words i.plain ∙ cond_false (length c) (place_of t 0) v in
           let st : Stands c at (working t) = subst (λ (j : ℕ). Stands c j (working t)) (sym p) (working_stands t c i.same_words i.plain) in
           g (terms_of module') t (working t) st (i.redex v) ∙ ap doing_of (sym (work_not (terms_of module') t v) ∙ sym (work_reads module' c t i.read_as))

@@ -1,16 +1,15 @@
 -- What the functions that write the next control promise, in the words of `work`.
-use Rattle.std.specs.Prelude.{ℕ, ◌-◌, ◌≡◌, true, false, List, [], ◌∷◌, drop, take}
+use Rattle.std.specs.Prelude.{ℕ, ◌-◌, ◌≡◌, true, false, List, [], ◌∷◌, drop, take, Err}
 use Rattle.std.proofs.Math.Option.{Option, none, some}
 use Rattle.term.specs.Tree.{Term, Terms, words}
 use Rattle.term.specs.Read.{term_of, terms_of}
 use Rattle.term.specs.Value.{is_value}
 use Rattle.machine.specs.Work.{Work, finished, stuck, to_seq, to_send, to_receive, to_spawn, to_self, to_check, work, next}
 use Rattle.row_laws.specs.Rows.{Plain}
-use Rattle.step.specs.Steps.{WroteNext, ModuleIs}
+use Rattle.step.specs.Steps.{Next, WroteNext, ModuleIs}
 use Rattle.step.specs.Controls.{ControlIs}
 use Rattle.step.specs.declared.control.Extent.{Extent}
-use Rattle.step.specs.declared.step.Next.{Next}
-use Rattle.step.specs.declared.step.Next.TheVariants.{Nothing}
+use Rattle.step.specs.declared.step.NoNext.TheVariants.{Nothing}
 
 -- a message's row, which is one value
 pub record ValueIs (row : List ℕ) (u : Term) : Type 0 where
@@ -21,7 +20,7 @@ pub record ValueIs (row : List ℕ) (u : Term) : Type 0 where
 
 -- the row of `work`'s answer was written, where there is one
 unfoldable pub RowIs : Option (List ℕ) → (old new : List ℕ) → Next → Type 0
-RowIs none old new r = (r ≡ Nothing) × (new ≡ old)
+RowIs none old new r = (r ≡ Err Nothing) × (new ≡ old)
 RowIs (some row) old new r = WroteNext row old new r
 
 -- a term of one word in the working place
@@ -36,7 +35,7 @@ Receives c v old new r =
 -- the row of a seq step was written; where the control is stuck, nothing was
 unfoldable pub SeqIs : Work → (old new : List ℕ) → Next → Type 0
 SeqIs finished old new r = Unit {0}
-SeqIs stuck old new r = (r ≡ Nothing) × (new ≡ old)
+SeqIs stuck old new r = (r ≡ Err Nothing) × (new ≡ old)
 SeqIs (to_seq row) old new r = WroteNext row old new r
 SeqIs (to_send target value row) old new r = Unit {0}
 SeqIs (to_receive takes) old new r = Unit {0}

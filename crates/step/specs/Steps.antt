@@ -1,6 +1,6 @@
 -- What the functions of one step promise, said of the term that stands at the working place.
-use Rattle.std.specs.Prelude.{ℕ, ◌+◌, ◌≤◌, ◌<◌, ◌≡◌, true, cond, List, ◌++◌, leb, length, drop}
-use Rattle.std.proofs.Math.Option.{Option, none, some}
+use Rattle.std.specs.Prelude.{ℕ, ◌+◌, ◌≤◌, ◌<◌, ◌≡◌, true, cond, List, ◌++◌, leb, length, drop, Option, Result, Ok, Err}
+use Rattle.std.proofs.Math.Option.{Option as Maybe, none, some}
 use Rattle.std.proofs.lemmas.List.Edits.{sets}
 use Rattle.term.specs.Words.{tag_apply, tag_call, tag_case, tag_let, tag_receive}
 use Rattle.term.specs.Tree.{Term, Terms, node, end, ◌then◌, words, words_of, count}
@@ -17,13 +17,16 @@ use Rattle.operands.specs.Operands.{Gives}
 use Rattle.choosing.specs.Clausal.{ClauseIs, AreClauses, ChosenIs}
 use Rattle.copying.specs.Nexts.{row_with}
 use Rattle.operands.specs.declared.operand.Operand.{Operand}
-use Rattle.choosing.specs.declared.clause.Chosen.{Chosen}
-use Rattle.step.specs.declared.step.Next.{Next}
-use Rattle.step.specs.declared.step.Next.TheVariants.{Nothing, TooLarge, Row}
+use Rattle.step.specs.declared.step.NoNext.{NoNext}
+use Rattle.step.specs.declared.step.NoNext.TheVariants.{Nothing, TooLarge}
+
+-- how many words the next control has, or why there is none
+abbrev pub Next : Type 0
+Next = Result ℕ NoNext
 
 -- a row of so many words, where there is room for it
 unfoldable pub fitted_of : ℕ → ℕ → Next
-fitted_of r room = cond (leb r room) (Row r) TooLarge
+fitted_of r room = cond (leb r room) (Ok r) (Err TooLarge)
 
 -- the row was written as far as there is room, and the answer says whether it fits
 pub record WroteNext (row old new : List ℕ) (r : Next) : Type 0 where
@@ -31,11 +34,11 @@ pub record WroteNext (row old new : List ℕ) (r : Next) : Type 0 where
   pub answer : r ≡ fitted_of (length row) (length old)
 
 -- a term in place of the one at a position; where there is none, nothing is written
-unfoldable pub NextIs : (c : List ℕ) (at : ℕ) (t : Term) → Option Term → (old new : List ℕ) → Next → Type 0
-NextIs c at t none old new r = (r ≡ Nothing) × (new ≡ old)
+unfoldable pub NextIs : (c : List ℕ) (at : ℕ) (t : Term) → Maybe Term → (old new : List ℕ) → Next → Type 0
+NextIs c at t none old new r = (r ≡ Err Nothing) × (new ≡ old)
 NextIs c at t (some u) old new r = WroteNext (row_with c at t (words u)) old new r
 
-unfoldable pub CalledAt : (c : List ℕ) (at : ℕ) → Operand → Type 0
+unfoldable pub CalledAt : (c : List ℕ) (at : ℕ) → Option Operand → Type 0
 CalledAt c at r = (n k : ℕ) (a b : Term) → Stands c at (node tag_call n k (a then (b then end))) → is_value a ≡ true → is_value b ≡ true → Gives c c r (operate k a b)
 
 unfoldable pub CallNext : (c : List ℕ) (at : ℕ) (old new : List ℕ) → Next → Type 0
@@ -43,7 +46,7 @@ CallNext c at old new r =
     (n k : ℕ) (a b : Term) → Stands c at (node tag_call n k (a then (b then end))) → is_value a ≡ true → is_value b ≡ true
     → NextIs c at (node tag_call n k (a then (b then end))) (operate k a b) old new r
 
-unfoldable pub CasedAt : (c : List ℕ) (at : ℕ) → Chosen → Type 0
+unfoldable pub CasedAt : (c : List ℕ) (at : ℕ) → Option ℕ → Type 0
 CasedAt c at r =
     (n k : ℕ) (subject : Term) (clauses : Terms) → Stands c at (node tag_case n k (subject then clauses)) → is_value subject ≡ true → AreClauses clauses → count clauses ≡ n
     → ChosenIs c subject clauses r

@@ -4,7 +4,7 @@ ghost use Rattle.std.specs.Prelude.{◌≡◌, ◌<◌, ◌≤◌, length};
 ghost use Rattle.row_laws.specs.Bounds.{place_limit};
 ghost use Rattle.step.specs.Steps.{fitted_of, CalledAt, CallNext, CasedAt, ClauseNext, CaseNext, LetNext, ReceiveNext, ParametersAt, ApplyNext};
 
-use choosing::clause::{Chosen, choose};
+use choosing::clause::choose;
 use copying::matching::matches;
 use copying::next::{Swap, with_copy, with_integer, with_word};
 use operands::operand::{Operand, here, operate};
@@ -12,13 +12,15 @@ use rows::functions::function_start;
 use rows::terms::skip;
 use rows::words::{INTEGER_WORD, VARIABLES, k, n};
 
-// No next control; one that is too large; one of so many words.
+// Why there is no next control: nothing is done, or it has no room.
 #[derive(Clone, Copy)]
-pub enum Next {
+pub enum NoNext {
     Nothing,
     TooLarge,
-    Row(usize),
 }
+
+// How many words the next control has.
+pub type Next = Result<usize, NoNext>;
 
 // What is written where there is nothing to write.
 const NO_WORDS: usize = 0;
@@ -27,18 +29,19 @@ pub fn fitted(r: usize, room: usize) -> Next
     ensures { result ≡ fitted_of r room }
 {
     if r <= room {
-        return Next::Row(r);
+        Ok(r)
+    } else {
+        Err(NoNext::TooLarge)
     }
-    Next::TooLarge
 }
 
 // What the call at `at` gives.
-pub fn called(c: &[u32], at: usize) -> Operand
+pub fn called(c: &[u32], at: usize) -> Option<Operand>
     requires { length c.now < place_limit }
     ensures { CalledAt c.now at result }
 {
     if c.len() <= at {
-        return Operand::Stuck;
+        return None;
     }
     let w = c[at];
     let x = here(c, at + 1);
@@ -51,29 +54,25 @@ pub fn call_next(c: &[u32], at: usize, out: &mut [u32]) -> Next
     requires { (at ≤ length c.now) × (length c.now < place_limit) }
     ensures { CallNext c.now at out.old out.new result }
 {
-    let r = called(c, at);
+    let value = called(c, at).ok_or(NoNext::Nothing)?;
+    // Never else: no operator gives a cons or a tuple.
+    let Operand::Short(w, x) = value else {
+        return Err(NoNext::Nothing);
+    };
     let room = out.len();
-    match r {
-        Operand::Short(w, x) => {
-            if w == INTEGER_WORD {
-                return fitted(with_integer(c, at, x, out), room);
-            }
-            fitted(with_word(c, at, w, out), room)
-        }
-        // Never so: no operator gives a cons or a tuple.
-        Operand::Here(i) => Next::Nothing,
-        Operand::There(i) => Next::Nothing,
-        Operand::Stuck => Next::Nothing,
+    if w == INTEGER_WORD {
+        return fitted(with_integer(c, at, x, out), room);
     }
+    fitted(with_word(c, at, w, out), room)
 }
 
 // The clause that the case at `at` takes.
-pub fn cased(c: &[u32], at: usize) -> Chosen
+pub fn cased(c: &[u32], at: usize) -> Option<usize>
     requires { length c.now < place_limit }
     ensures { CasedAt c.now at result }
 {
     if c.len() <= at {
-        return Chosen::Nothing;
+        return None;
     }
     let w = c[at];
     let clauses = skip(c, at + 1, 1);
@@ -90,9 +89,9 @@ fn clause_next(c: &[u32], at: usize, clause: usize, v: &[u32], va: usize, out: &
         return NO_WORDS;
     }
     let mut env = [0; VARIABLES];
-    let fits = matches(c, clause + 1, v, va, 1, &mut env);
+    matches(c, clause + 1, v, va, 1, &mut env);
     let body = skip(c, clause + 1, 2);
-    let swap = Swap { at: at, body: body };
+    let swap = Swap { at, body };
     with_copy(c, c, swap, v, &env, out)
 }
 
@@ -100,12 +99,9 @@ pub fn case_next(c: &[u32], at: usize, out: &mut [u32]) -> Next
     requires { (at ≤ length c.now) × (length c.now < place_limit) }
     ensures { CaseNext c.now at out.old out.new result }
 {
-    let r = cased(c, at);
+    let clause = cased(c, at).ok_or(NoNext::Nothing)?;
     let room = out.len();
-    match r {
-        Chosen::Clause(i) => fitted(clause_next(c, at, i, c, at + 1, out), room),
-        Chosen::Nothing => Next::Nothing,
-    }
+    fitted(clause_next(c, at, clause, c, at + 1, out), room)
 }
 
 pub fn let_next(c: &[u32], at: usize, out: &mut [u32]) -> Next
@@ -113,18 +109,18 @@ pub fn let_next(c: &[u32], at: usize, out: &mut [u32]) -> Next
     ensures { LetNext c.now at out.old out.new result }
 {
     if c.len() <= at {
-        return Next::Nothing;
+        return Err(NoNext::Nothing);
     }
     let mut env = [0; VARIABLES];
     let x = k(c[at]) as usize;
     // Never so: the control check asks for a variable.
     if VARIABLES <= x {
-        return Next::Nothing;
+        return Err(NoNext::Nothing);
     }
     env[x] = at as u32 + 2;
     let body = skip(c, at + 1, 1);
     let room = out.len();
-    let swap = Swap { at: at, body: body };
+    let swap = Swap { at, body };
     fitted(with_copy(c, c, swap, c, &env, out), room)
 }
 
@@ -134,14 +130,11 @@ pub fn receive_next(c: &[u32], at: usize, v: &[u32], out: &mut [u32]) -> Next
     ensures { ReceiveNext c.now at v.now out.old out.new result }
 {
     if c.len() <= at {
-        return Next::Nothing;
+        return Err(NoNext::Nothing);
     }
-    let r = choose(c, at + 1, n(c[at]) as usize, v, 0);
+    let clause = choose(c, at + 1, n(c[at]) as usize, v, 0).ok_or(NoNext::Nothing)?;
     let room = out.len();
-    match r {
-        Chosen::Clause(i) => fitted(clause_next(c, at, i, v, 0, out), room),
-        Chosen::Nothing => Next::Nothing,
-    }
+    fitted(clause_next(c, at, clause, v, 0, out), room)
 }
 
 // The places of the `count` values at `at` as those of the variables from `x` on.
@@ -149,13 +142,7 @@ fn parameters(c: &[u32], at: usize, count: usize, x: usize, env: &mut [u32])
     requires { length c.now < place_limit }
     ensures { ParametersAt c.now at count x env.old env.new }
 {
-    if count == 0 {
-        return;
-    }
-    if c.len() <= at {
-        return;
-    }
-    if env.len() <= x {
+    if count == 0 || c.len() <= at || env.len() <= x {
         return;
     }
     let after = skip(c, at, 1);
@@ -169,7 +156,7 @@ pub fn apply_next(program: &[u32], c: &[u32], at: usize, out: &mut [u32]) -> Nex
     ensures { ApplyNext program.now c.now at out.old out.new result }
 {
     if c.len() <= at {
-        return Next::Nothing;
+        return Err(NoNext::Nothing);
     }
     let w = c[at];
     let mut env = [0; VARIABLES];
@@ -177,11 +164,11 @@ pub fn apply_next(program: &[u32], c: &[u32], at: usize, out: &mut [u32]) -> Nex
     let start = function_start(program, k(w) as usize);
     // Never so: the control check asks for a function of the module.
     if program.len() <= start {
-        return Next::Nothing;
+        return Err(NoNext::Nothing);
     }
     let room = out.len();
     let swap = Swap {
-        at: at,
+        at,
         body: start + 1,
     };
     fitted(with_copy(c, program, swap, c, &env, out), room)

@@ -4,9 +4,7 @@ ghost use Rattle.row_laws.specs.Bounds.{place_limit};
 ghost use Rattle.step.specs.Controls.{CallDoing, CaseDoing, SendDoing, DoingAt, DoingOf};
 
 use crate::step::{called, cased};
-use choosing::clause::Chosen;
-use copying::place::find;
-use operands::operand::Operand;
+use copying::place::working_place;
 use rows::words::{APPLY, CALL, CASE, CHECK, LET, PID, RECEIVE, SELF, SEND, SPAWN, k, tag};
 
 // The cases of 01; a send with its target, a check with its number.
@@ -22,17 +20,14 @@ pub enum Doing {
     Check(u32),
 }
 
+// Written out as in `case_doing`: one function that is lent `called` or `cased` would have to state the promises of both.
 fn call_doing(c: &[u32], at: usize) -> Doing
     requires { length c.now < place_limit }
     ensures { CallDoing c.now at result }
 {
-    let r = called(c, at);
-    match r {
-        Operand::Stuck => Doing::Stuck,
-        Operand::Short(w, x) => Doing::Seq,
-        // Never so: no operator gives a cons or a tuple.
-        Operand::Here(i) => Doing::Seq,
-        Operand::There(i) => Doing::Seq,
+    match called(c, at) {
+        Some(_) => Doing::Seq,
+        None => Doing::Stuck,
     }
 }
 
@@ -40,10 +35,9 @@ fn case_doing(c: &[u32], at: usize) -> Doing
     requires { length c.now < place_limit }
     ensures { CaseDoing c.now at result }
 {
-    let r = cased(c, at);
-    match r {
-        Chosen::Clause(i) => Doing::Seq,
-        Chosen::Nothing => Doing::Stuck,
+    match cased(c, at) {
+        Some(_) => Doing::Seq,
+        None => Doing::Stuck,
     }
 }
 
@@ -70,35 +64,17 @@ fn doing_at(c: &[u32], at: usize) -> Doing
         return Doing::Stuck;
     }
     let w = c[at];
-    let t = tag(w);
-    if t == CALL {
-        return call_doing(c, at);
+    match tag(w) {
+        CALL => call_doing(c, at),
+        APPLY | LET => Doing::Seq,
+        CASE => case_doing(c, at),
+        RECEIVE => Doing::Receive,
+        SPAWN => Doing::Spawn,
+        SEND => send_doing(c, at),
+        SELF => Doing::Own,
+        CHECK => Doing::Check(k(w)),
+        _ => Doing::Stuck,
     }
-    if t == APPLY {
-        return Doing::Seq;
-    }
-    if t == CASE {
-        return case_doing(c, at);
-    }
-    if t == LET {
-        return Doing::Seq;
-    }
-    if t == RECEIVE {
-        return Doing::Receive;
-    }
-    if t == SPAWN {
-        return Doing::Spawn;
-    }
-    if t == SEND {
-        return send_doing(c, at);
-    }
-    if t == SELF {
-        return Doing::Own;
-    }
-    if t == CHECK {
-        return Doing::Check(k(w));
-    }
-    Doing::Stuck
 }
 
 // What the control `c` is about to do.
@@ -106,9 +82,8 @@ pub fn about_to(c: &[u32]) -> Doing
     requires { length c.now < place_limit }
     ensures { DoingOf c.now result }
 {
-    let at = find(c, 0, 1, c.len());
-    if c.len() <= at {
-        return Doing::Finished;
+    match working_place(c) {
+        Some(at) => doing_at(c, at),
+        None => Doing::Finished,
     }
-    doing_at(c, at)
 }

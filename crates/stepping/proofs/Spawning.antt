@@ -8,22 +8,20 @@ use native.Mathlib.Omega.{arith}
 use lib.Dec.{ltb}
 use lib.ListN.{length, take}
 use lib.Seq.{length-take-le}
+use Rattle.std.specs.Prelude.{Ok, Err}
 use Rattle.lists.proofs.Tests.{true_not_false, leb_of, ltb_of, ltb_over}
 use Rattle.term.specs.Words.{word, tag_pid}
 use Rattle.machine.specs.Work.{to_spawn}
-use Rattle.step.specs.Steps.{fitted_of, WroteNext}
+use Rattle.step.specs.Steps.{Next, fitted_of, WroteNext}
 use Rattle.step.specs.declared.work.Doing.TheVariants.{Spawn}
-use Rattle.step.specs.declared.step.Next.{Next}
-use Rattle.step.specs.declared.step.Next.TheVariants.{Row}
 use Rattle.rules.specs.Answers.{place_taken}
 use Rattle.rules.specs.State.{spawn, State, in_pool}
 use Rattle.rules.specs.Load.{new_process}
 use Rattle.rules.specs.Commands.{spawn_into, other, Plan, refuse, need, making, spawning, run}
 use Rattle.rules.specs.Replies.{perform}
 use Rattle.store.specs.Image.{IsImage}
-use Rattle.calls.specs.Numbers.{number_of, value_of}
-use Rattle.calls.specs.declared.answers.Answer.{Answer}
-use Rattle.calls.specs.declared.answers.Answer.TheVariants.{PlaceTaken, TooLarge as LargeAnswer}
+use Rattle.calls.specs.Numbers.{Answer, number_of, value_of}
+use Rattle.calls.specs.declared.answers.Refusal.TheVariants.{PlaceTaken, TooLarge as LargeAnswer}
 use Rattle.reading.specs.Reads.{Holds, OfState, Lives}
 use Rattle.entering.specs.Entering.{CanSpawn}
 use Rattle.calls.specs.Answering.{Answers, Does}
@@ -66,14 +64,14 @@ module _ (entry : List ℕ) (p f : ℕ) (about-spawn : OfState entry (About p Sp
         let parent = (control_is s h.sound p lives).fits in
         omega (arith, born.fits)
 
-  pub spawn_beyond : (n : ℕ) → OfState entry (λ s. n ≡ s.sizes.places) → n ≤ f → Does (spawn_into p f) entry entry PlaceTaken
+  pub spawn_beyond : (n : ℕ) → OfState entry (λ s. n ≡ s.sizes.places) → n ≤ f → Does (spawn_into p f) entry entry (Err PlaceTaken)
   unfolding OfState need number_of value_of
-  spawn_beyond n places beyond = does_refused (spawn_into p f) entry PlaceTaken refl (λ s rest h.
+  spawn_beyond n places beyond = does_refused (spawn_into p f) entry (Err PlaceTaken) refl (λ s rest h.
       at_spawn_runs s rest h ∙ ap (λ (b : Bool). need b place_taken (need (not (in_pool s f)) place_taken (wanted s rest h))) (ltb_over f s.sizes.places (omega (arith, places s rest h))))
 
-  pub spawn_taken : (b : Bool) → OfState entry (λ s. b ≡ in_pool s f) → b ≡ true → Does (spawn_into p f) entry entry PlaceTaken
+  pub spawn_taken : (b : Bool) → OfState entry (λ s. b ≡ in_pool s f) → b ≡ true → Does (spawn_into p f) entry entry (Err PlaceTaken)
   unfolding OfState need number_of value_of
-  spawn_taken b pool e = does_refused (spawn_into p f) entry PlaceTaken refl (λ s rest h.
+  spawn_taken b pool e = does_refused (spawn_into p f) entry (Err PlaceTaken) refl (λ s rest h.
       at_spawn_runs s rest h
       ∙ ap (λ (x : Bool). need (ltb f s.sizes.places) place_taken (need (not x) place_taken (wanted s rest h))) (sym (pool s rest h) ∙ e)
       ∙ twice_refused (ltb f s.sizes.places))
@@ -87,28 +85,28 @@ module _ (entry : List ℕ) (p f : ℕ) (about-spawn : OfState entry (About p Sp
     unfolding OfState
     child_told s rest h = (child_wrote s rest h).answer ∙ ap (fitted_of (length (spawning_at s rest h).0)) (sized s rest h)
 
-    pub child_else : NoLength own → Does (spawn_into p f) entry entry LargeAnswer
+    pub child_else : NoLength own → Does (spawn_into p f) entry entry (Err LargeAnswer)
     unfolding Answers perform
     child_else k s rest h = true_not_false (leb_of (length (spawning_at s rest h).0) s.sizes.words (child_fits s rest h)) (fitted_else own _ _ k (child_told s rest h))
 
-    pub child_within : (m : ℕ) → IsImage entry → own ≡ Row m → m ≤ length first
+    pub child_within : (m : ℕ) → IsImage entry → own ≡ Ok m → m ≤ length first
     child_within m i e =
         let h : Holds entry i.state i.rest = record { sound = i.sound; words = i.words } in
         let w = child_wrote i.state i.rest h in
         let t = fitted_row m _ _ (sym e ∙ w.answer) in
         omega (arith, t.0, t.1, wrote_length _ _ _ _ w)
 
-    pub child_part : (m : ℕ) → IsImage entry → own ≡ Row m → m ≡ length (take m first)
+    pub child_part : (m : ℕ) → IsImage entry → own ≡ Ok m → m ≡ length (take m first)
     child_part m i e = sym (length-take-le m first (child_within m i e))
 
-    child_is : (s : State) (rest : List ℕ) (h : Holds entry s rest) (m : ℕ) → own ≡ Row m → take m first ≡ (spawning_at s rest h).0
+    child_is : (s : State) (rest : List ℕ) (h : Holds entry s rest) (m : ℕ) → own ≡ Ok m → take m first ≡ (spawning_at s rest h).0
     unfolding OfState
     child_is s rest h m e =
         let d = wrote_drawn s.sizes.words _ old first own (child_wrote s rest h) (sized s rest h) in
         let t = fitted_row m _ _ (sym e ∙ d.told) in
         ap (λ (x : ℕ). take x first) (sym t.0) ∙ d.stands t.1
 
-    module _ (m w : ℕ) (old' row : List ℕ) (next : Next) (row_told : own ≡ Row m) (sized' : OfState entry (Sized old')) (wrote' : OfState entry (WordRow p w old' row next)) (is-pid : w ≡ word tag_pid 0 f) where
+    module _ (m w : ℕ) (old' row : List ℕ) (next : Next) (row_told : own ≡ Ok m) (sized' : OfState entry (Sized old')) (wrote' : OfState entry (WordRow p w old' row next)) (is-pid : w ≡ word tag_pid 0 f) where
       next_wrote : (s : State) (rest : List ℕ) (h : Holds entry s rest) → WroteNext ((spawning_at s rest h).1 f) old' row next
       unfolding OfState
       next_wrote s rest h = (wrote' s rest h).of_spawn (spawning_at s rest h).0 (spawning_at s rest h).1 f (spawning_at s rest h).2 is-pid

@@ -6,14 +6,14 @@ use mathlib.Core.Option.{Option, none, some}
 use mathlib.Core.List.{List, ◌∷◌, ◌++◌}
 use native.Mathlib.Omega.{arith}
 use lib.ListN.{length, length-append}
+use Rattle.std.specs.Prelude.{Ok, Err}
 use Rattle.term.specs.Words.{word, tag_atom, tag_pid}
 use Rattle.machine.specs.Work.{Work, finished, stuck, to_seq, to_send, to_receive, to_spawn, to_self, to_check, work}
-use Rattle.step.specs.Steps.{WroteNext}
+use Rattle.step.specs.Steps.{Next, WroteNext}
 use Rattle.step.specs.Controls.{doing_of}
 use Rattle.step.specs.declared.work.Doing.{Doing}
 use Rattle.step.specs.declared.work.Doing.TheVariants.{Finished, Stuck, Seq, Send, Receive, Spawn, Own, Check}
-use Rattle.step.specs.declared.step.Next.{Next}
-use Rattle.step.specs.declared.step.Next.TheVariants.{Nothing, TooLarge, Row}
+use Rattle.step.specs.declared.step.NoNext.TheVariants.{Nothing, TooLarge}
 use Rattle.rules.specs.State.{Kind, seq, send, rec, self, check, as_rec, Process, State, in_pool}
 use Rattle.rules.specs.Sound.{Sound}
 use Rattle.rules.specs.Answers.{stuck as stuck_number}
@@ -22,9 +22,8 @@ use Rattle.rules.specs.Replies.{perform}
 use Rattle.rules.proofs.Oldest.{pick_is}
 use Rattle.store.specs.Layout.{kind_seq, kind_send, kind_self, kind_check, kind_number, number_in, image}
 use Rattle.store.specs.Image.{IsImage}
-use Rattle.calls.specs.Numbers.{number_of, value_of}
-use Rattle.calls.specs.declared.answers.Answer.{Answer}
-use Rattle.calls.specs.declared.answers.Answer.TheVariants.{Finished as FinishedAnswer, Waiting, Stuck as StuckAnswer, WrongCommand, TooLarge as LargeAnswer}
+use Rattle.calls.specs.Numbers.{Answer, number_of, value_of}
+use Rattle.calls.specs.declared.answers.Refusal.TheVariants.{Finished as FinishedAnswer, Waiting, Stuck as StuckAnswer, WrongCommand, TooLarge as LargeAnswer}
 use Rattle.reading.specs.Reads.{Holds, OfState, Lives}
 use Rattle.writing.specs.Writes.{CanTake}
 use Rattle.calls.specs.Answering.{Answers, Does, Obeys}
@@ -103,45 +102,59 @@ module _ (entry : List ℕ) (p : ℕ) (d : Doing) (lives : OfState entry (Lives 
   spawn_refused f told r e v g = does_refused (spawn_into p f) entry r v (λ s rest h.
       spawn_runs s h.sound p (lives s rest h) refl f ∙ g s (about s p) (for_doing _ told (sym e ∙ is s rest h)))
 
-  pub step_finished : d ≡ Finished → Does (step p) entry entry FinishedAnswer
+  pub step_finished : d ≡ Finished → Does (step p) entry entry (Err FinishedAnswer)
   unfolding WorkFor stepping number_of value_of
-  step_finished e = step_refused Finished FinishedAnswer e refl (λ s w x. ap (stepping s p (process_at s p)) x)
+  step_finished e = step_refused Finished (Err FinishedAnswer) e refl (λ s w x. ap (stepping s p (process_at s p)) x)
 
-  pub step_stuck : d ≡ Stuck → Does (step p) entry entry StuckAnswer
+  pub step_stuck : d ≡ Stuck → Does (step p) entry entry (Err StuckAnswer)
   unfolding WorkFor stepping number_of value_of
-  step_stuck e = step_refused Stuck StuckAnswer e refl (λ s w x. ap (stepping s p (process_at s p)) x)
+  step_stuck e = step_refused Stuck (Err StuckAnswer) e refl (λ s w x. ap (stepping s p (process_at s p)) x)
 
-  pub step_at_spawn : d ≡ Spawn → Does (step p) entry entry WrongCommand
+  pub step_at_spawn : d ≡ Spawn → Does (step p) entry entry (Err WrongCommand)
   unfolding WorkFor stepping number_of value_of
-  step_at_spawn e = step_refused Spawn WrongCommand e refl (λ s w x. ap (stepping s p (process_at s p)) x.2)
+  step_at_spawn e = step_refused Spawn (Err WrongCommand) e refl (λ s w x. ap (stepping s p (process_at s p)) x.2)
 
-  pub spawn_finished : (f : ℕ) → d ≡ Finished → Does (spawn_into p f) entry entry FinishedAnswer
+  pub spawn_finished : (f : ℕ) → d ≡ Finished → Does (spawn_into p f) entry entry (Err FinishedAnswer)
   unfolding WorkFor spawning number_of value_of
-  spawn_finished f e = spawn_refused f Finished FinishedAnswer e refl (λ s w x. ap (spawning s p (process_at s p) f) x)
+  spawn_finished f e = spawn_refused f Finished (Err FinishedAnswer) e refl (λ s w x. ap (spawning s p (process_at s p) f) x)
 
-  pub spawn_stuck : (f : ℕ) → d ≡ Stuck → Does (spawn_into p f) entry entry WrongCommand
+  spawn_stuck : (f : ℕ) → d ≡ Stuck → Does (spawn_into p f) entry entry (Err WrongCommand)
   unfolding WorkFor spawning number_of value_of
-  spawn_stuck f e = spawn_refused f Stuck WrongCommand e refl (λ s w x. ap (spawning s p (process_at s p) f) x)
+  spawn_stuck f e = spawn_refused f Stuck (Err WrongCommand) e refl (λ s w x. ap (spawning s p (process_at s p) f) x)
 
-  pub spawn_seq : (f : ℕ) → d ≡ Seq → Does (spawn_into p f) entry entry WrongCommand
+  spawn_seq : (f : ℕ) → d ≡ Seq → Does (spawn_into p f) entry entry (Err WrongCommand)
   unfolding WorkFor spawning number_of value_of
-  spawn_seq f e = spawn_refused f Seq WrongCommand e refl (λ s w x. ap (spawning s p (process_at s p) f) x.1)
+  spawn_seq f e = spawn_refused f Seq (Err WrongCommand) e refl (λ s w x. ap (spawning s p (process_at s p) f) x.1)
 
-  pub spawn_send : (f t : ℕ) → d ≡ Send t → Does (spawn_into p f) entry entry WrongCommand
+  spawn_send : (f t : ℕ) → d ≡ Send t → Does (spawn_into p f) entry entry (Err WrongCommand)
   unfolding WorkFor spawning number_of value_of
-  spawn_send f t e = spawn_refused f (Send t) WrongCommand e refl (λ s w x. ap (spawning s p (process_at s p) f) x.2)
+  spawn_send f t e = spawn_refused f (Send t) (Err WrongCommand) e refl (λ s w x. ap (spawning s p (process_at s p) f) x.2)
 
-  pub spawn_receive : (f : ℕ) → d ≡ Receive → Does (spawn_into p f) entry entry WrongCommand
+  spawn_receive : (f : ℕ) → d ≡ Receive → Does (spawn_into p f) entry entry (Err WrongCommand)
   unfolding WorkFor spawning number_of value_of
-  spawn_receive f e = spawn_refused f Receive WrongCommand e refl (λ s w x. ap (spawning s p (process_at s p) f) x.1)
+  spawn_receive f e = spawn_refused f Receive (Err WrongCommand) e refl (λ s w x. ap (spawning s p (process_at s p) f) x.1)
 
-  pub spawn_own : (f : ℕ) → d ≡ Own → Does (spawn_into p f) entry entry WrongCommand
+  spawn_own : (f : ℕ) → d ≡ Own → Does (spawn_into p f) entry entry (Err WrongCommand)
   unfolding WorkFor spawning number_of value_of
-  spawn_own f e = spawn_refused f Own WrongCommand e refl (λ s w x. ap (spawning s p (process_at s p) f) x.1)
+  spawn_own f e = spawn_refused f Own (Err WrongCommand) e refl (λ s w x. ap (spawning s p (process_at s p) f) x.1)
 
-  pub spawn_check : (f k : ℕ) → d ≡ Check k → Does (spawn_into p f) entry entry WrongCommand
+  spawn_check : (f k : ℕ) → d ≡ Check k → Does (spawn_into p f) entry entry (Err WrongCommand)
   unfolding WorkFor spawning number_of value_of
-  spawn_check f k e = spawn_refused f (Check k) WrongCommand e refl (λ s w x. ap (spawning s p (process_at s p) f) x.1)
+  spawn_check f k e = spawn_refused f (Check k) (Err WrongCommand) e refl (λ s w x. ap (spawning s p (process_at s p) f) x.1)
+
+  -- whatever else it is about to do
+  pub spawn_elsewhere : (f : ℕ) → ¬ (d ≡ Finished) → ¬ (d ≡ Spawn) → Does (spawn_into p f) entry entry (Err WrongCommand)
+  spawn_elsewhere f unfinished no_spawn = go d refl
+    where
+      go : (told : Doing) → d ≡ told → Does (spawn_into p f) entry entry (Err WrongCommand)
+      go Finished e = absurd (unfinished e)
+      go Spawn e = absurd (no_spawn e)
+      go Stuck e = spawn_stuck f e
+      go Seq e = spawn_seq f e
+      go (Send t) e = spawn_send f t e
+      go Receive e = spawn_receive f e
+      go Own e = spawn_own f e
+      go (Check k) e = spawn_check f k e
 
 -- ---- the next control of each
 
@@ -216,9 +229,9 @@ module _ (entry old row : List ℕ) (p : ℕ) (next : Next) (sized : OfState ent
         obeys_same _ _ s rest exit r (step_runs s h.sound p a.lives x.1) (made_so s rest exit r (check k) nothing x.0 h ((wrote s rest h).of_check k x.0 x.1 e) (m s rest (check k) h refl refl refl))
 
 -- a target that is not in the pool
-pub send_stuck : (entry : List ℕ) (p t : ℕ) (b : Bool) → OfState entry (About p (Send t)) → OfState entry (λ s. b ≡ in_pool s t) → b ≡ false → Does (step p) entry entry StuckAnswer
+pub send_stuck : (entry : List ℕ) (p t : ℕ) (b : Bool) → OfState entry (About p (Send t)) → OfState entry (λ s. b ≡ in_pool s t) → b ≡ false → Does (step p) entry entry (Err StuckAnswer)
 unfolding WorkFor OfState stepping need number_of value_of
-send_stuck entry p t b about-send pool gone = does_refused (step p) entry StuckAnswer refl (λ s rest h.
+send_stuck entry p t b about-send pool gone = does_refused (step p) entry (Err StuckAnswer) refl (λ s rest h.
     let a = about-send s rest h in
     let x = for_doing _ (Send t) a.is in
     step_runs s h.sound p a.lives x.2 ∙ ap (λ (y : Bool). need y stuck_number (making s p (process_at s p) (send t x.0) x.1 nothing)) (sym (pool s rest h) ∙ gone))
@@ -254,43 +267,43 @@ module _ (entry old row : List ℕ) (p : ℕ) (r : Told) (about-receive : OfStat
     unfolding PickedRow OfState
     pick_told = told s rest h taking.0 taking.1
 
-  waits : (s : State) (rest : List ℕ) (o : Option Picked) → entry ≡ image s ++ rest → PickIs o old row r → r.next ≡ Nothing → Obeys (receiving s p (process_at s p) o) s rest entry Waiting
+  waits : (s : State) (rest : List ℕ) (o : Option Picked) → entry ≡ image s ++ rest → PickIs o old row r → r.next ≡ Err Nothing → Obeys (receiving s p (process_at s p) o) s rest entry (Err Waiting)
   unfolding PickIs receiving number_of value_of
-  waits s rest none e k f = obeys_refused _ s rest entry Waiting e refl refl
+  waits s rest none e k f = obeys_refused _ s rest entry (Err Waiting) e refl refl
   waits s rest (some (picked older m newer whole)) e k f = absurd (fitted_nothing (length whole) (length old) (sym f ∙ k.1.answer))
 
-  pub receive_waits : r.next ≡ Nothing → Does (step p) entry entry Waiting
+  pub receive_waits : r.next ≡ Err Nothing → Does (step p) entry entry (Err Waiting)
   unfolding Answers perform
-  receive_waits f s rest h = obeys_same _ _ s rest entry Waiting (receive_runs s rest h) (waits s rest (pick (taking s rest h).0 (s.queues p)) h.words (pick_told s rest h) f)
+  receive_waits f s rest h = obeys_same _ _ s rest entry (Err Waiting) (receive_runs s rest h) (waits s rest (pick (taking s rest h).0 (s.queues p)) h.words (pick_told s rest h) f)
 
   module _ (sized : OfState entry (Sized old)) where
     -- some message is taken
-    too_large_lem : (s : State) (rest : List ℕ) (o : Option Picked) → Holds entry s rest → PickIs o old row r → r.next ≡ TooLarge → Obeys (receiving s p (process_at s p) o) s rest entry LargeAnswer
+    too_large_lem : (s : State) (rest : List ℕ) (o : Option Picked) → Holds entry s rest → PickIs o old row r → r.next ≡ Err TooLarge → Obeys (receiving s p (process_at s p) o) s rest entry (Err LargeAnswer)
     unfolding PickIs receiving
     too_large_lem s rest none h k f = let z : ◌≡◌ {A = ℕ} 0 1 = cc in absurd (omega arith)
     too_large_lem s rest (some (picked older m newer whole)) h k f =
-        made_so entry old row p TooLarge sized s rest entry LargeAnswer (rec older m newer) (own_queue (older ++ newer)) whole h (subst (WroteNext whole old row) f k.1)
+        made_so entry old row p (Err TooLarge) sized s rest entry (Err LargeAnswer) (rec older m newer) (own_queue (older ++ newer)) whole h (subst (WroteNext whole old row) f k.1)
         (made_large s p (rec older m newer) (own_queue (older ++ newer)) rest entry row h.words)
 
-    pub receive_large : r.next ≡ TooLarge → Does (step p) entry entry LargeAnswer
+    pub receive_large : r.next ≡ Err TooLarge → Does (step p) entry entry (Err LargeAnswer)
     unfolding Answers perform
-    receive_large f s rest h = obeys_same _ _ s rest entry LargeAnswer (receive_runs s rest h) (too_large_lem s rest (pick (taking s rest h).0 (s.queues p)) h (pick_told s rest h) f)
+    receive_large f s rest h = obeys_same _ _ s rest entry (Err LargeAnswer) (receive_runs s rest h) (too_large_lem s rest (pick (taking s rest h).0 (s.queues p)) h (pick_told s rest h) f)
 
-    takes_one : (s : State) (rest exit : List ℕ) (a : Answer) (n : ℕ) (takes : (List ℕ → Option (List ℕ))) (o : Option Picked) → pick takes (s.queues p) ≡ o → Holds entry s rest → PickIs o old row r → r.next ≡ Row n
+    takes_one : (s : State) (rest exit : List ℕ) (a : Answer) (n : ℕ) (takes : (List ℕ → Option (List ℕ))) (o : Option Picked) → pick takes (s.queues p) ≡ o → Holds entry s rest → PickIs o old row r → r.next ≡ Ok n
         → MakesRec p r.place n row entry exit a → Obeys (receiving s p (process_at s p) o) s rest exit a
     unfolding PickIs receiving MakesRec
     takes_one s rest exit a n takes none q h k f m = let z : ◌≡◌ {A = ℕ} 0 1 = cc in absurd (omega arith)
     takes_one s rest exit a n takes (some (picked older x newer whole)) q h k f m =
-        made_so entry old row p (Row n) sized s rest exit a (rec older x newer) (own_queue (older ++ newer)) whole h (subst (WroteNext whole old row) f k.1)
+        made_so entry old row p (Ok n) sized s rest exit a (rec older x newer) (own_queue (older ++ newer)) whole h (subst (WroteNext whole old row) f k.1)
         (m s rest older x newer h (pick_is takes (s.queues p) q) k.0)
 
-    pub receive_does : (n : ℕ) (exit : List ℕ) (a : Answer) → r.next ≡ Row n → MakesRec p r.place n row entry exit a → Does (step p) entry exit a
+    pub receive_does : (n : ℕ) (exit : List ℕ) (a : Answer) → r.next ≡ Ok n → MakesRec p r.place n row entry exit a → Does (step p) entry exit a
     unfolding Answers perform
     receive_does n exit a f m s rest h =
         obeys_same _ _ s rest exit a (receive_runs s rest h) (takes_one s rest exit a n (taking s rest h).0 (pick (taking s rest h).0 (s.queues p)) refl h (pick_told s rest h) f m)
 
     -- what `make_rec` asks for
-    can_take : (s : State) (n : ℕ) (takes : (List ℕ → Option (List ℕ))) (o : Option Picked) → pick takes (s.queues p) ≡ o → PickIs o old row r → r.next ≡ Row n
+    can_take : (s : State) (n : ℕ) (takes : (List ℕ → Option (List ℕ))) (o : Option Picked) → pick takes (s.queues p) ≡ o → PickIs o old row r → r.next ≡ Ok n
         → (r.place < length (s.queues p)) × (length row ≡ length old) × (n ≤ length row)
     unfolding PickIs
     can_take s n takes none q k f = let z : ◌≡◌ {A = ℕ} 0 1 = cc in absurd (omega arith)
@@ -299,10 +312,10 @@ module _ (entry old row : List ℕ) (p : ℕ) (r : Told) (about-receive : OfStat
         let t = fitted_row n (length whole) (length old) (sym f ∙ k.1.answer) in
         (omega (arith, ap length (pick_is takes (s.queues p) q), length-append older (x ∷ newer), k.0), same, omega (arith, t.0, t.1))
 
-    taken_at : (s : State) (rest : List ℕ) (n : ℕ) → Holds entry s rest → r.next ≡ Row n → (r.place < length (s.queues p)) × (length row ≡ length old) × (n ≤ length row)
+    taken_at : (s : State) (rest : List ℕ) (n : ℕ) → Holds entry s rest → r.next ≡ Ok n → (r.place < length (s.queues p)) × (length row ≡ length old) × (n ≤ length row)
     taken_at s rest n h f = can_take s n (taking s rest h).0 (pick (taking s rest h).0 (s.queues p)) refl (pick_told s rest h) f
 
-    pub receive_ready : (n : ℕ) → IsImage entry → r.next ≡ Row n
+    pub receive_ready : (n : ℕ) → IsImage entry → r.next ≡ Ok n
         → IsImage entry × OfState entry (Lives p) × OfState entry (Sized row) × (n ≤ length row) × OfState entry (CanTake p r.place)
     unfolding OfState
     receive_ready n i f = (

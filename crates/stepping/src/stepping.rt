@@ -7,13 +7,13 @@ ghost use Rattle.calls.specs.Answering.{Does};
 ghost use Rattle.making.specs.Making.{Sized};
 ghost use Rattle.stepping.specs.Stepping.{About, Free};
 
-use calls::answers::Answer;
+use calls::answers::{Answer, Refusal};
 use making::making::{make, make_rec, make_spawn};
 use making::next::{child_row, doing, send_row, seq_row, word_row};
-use making::picking::pick;
+use making::picking::{Picked, pick};
 use reading::state::{in_pool, places};
 use rows::words::{ATOM, PID, word_of};
-use step::step::Next;
+use step::step::NoNext;
 use step::work::Doing;
 use store::layout::{CHECK, SELF, SEND, SEQ};
 
@@ -31,7 +31,7 @@ fn step_send(store: &mut [u32], p: u32, t: u32, out: &mut [u32]) -> Answer
     ensures { Does (step_of p) store.old store.new result }
 {
     if !in_pool(store, t) {
-        return Answer::Stuck;
+        return Err(Refusal::Stuck);
     }
     let next = send_row(store, p as usize, out);
     make(store, p as usize, SEND, 0, next, out)
@@ -57,13 +57,11 @@ fn step_receive(store: &mut [u32], p: u32, out: &mut [u32]) -> Answer
     requires { IsImage store.old × OfState store.old (About p Receive) × OfState store.old (Sized out.old) }
     ensures { Does (step_of p) store.old store.new result }
 {
-    let picked = pick(store, p as usize, out);
-    let place = picked.place;
-    let next = picked.next;
+    let Picked { place, next } = pick(store, p as usize, out);
     match next {
-        Next::Nothing => Answer::Waiting,
-        Next::TooLarge => Answer::TooLarge,
-        Next::Row(n) => make_rec(store, p as usize, place, n, out),
+        Err(NoNext::Nothing) => Err(Refusal::Waiting),
+        Err(NoNext::TooLarge) => Err(Refusal::TooLarge),
+        Ok(n) => make_rec(store, p as usize, place, n, out),
     }
 }
 
@@ -74,12 +72,12 @@ pub fn step_live(store: &mut [u32], p: u32, out: &mut [u32]) -> Answer
 {
     let d = doing(store, p as usize);
     match d {
-        Doing::Finished => Answer::Finished,
-        Doing::Stuck => Answer::Stuck,
+        Doing::Finished => Err(Refusal::Finished),
+        Doing::Stuck => Err(Refusal::Stuck),
         Doing::Seq => step_seq(store, p, out),
         Doing::Send(t) => step_send(store, p, t, out),
         Doing::Receive => step_receive(store, p, out),
-        Doing::Spawn => Answer::WrongCommand,
+        Doing::Spawn => Err(Refusal::WrongCommand),
         Doing::Own => step_self(store, p, out),
         Doing::Check(k) => step_check(store, p, k, out),
     }
@@ -90,10 +88,9 @@ fn spawn_free(store: &mut [u32], p: u32, f: u32, out: &mut [u32], first: &mut [u
     requires { IsImage store.old × OfState store.old (About p Spawn) × OfState store.old (Free f) × OfState store.old (Sized out.old) × OfState store.old (Sized first.old) }
     ensures { Does (spawn_into p f) store.old store.new result }
 {
-    let own = child_row(store, p as usize, first);
     // Never else: the child's first control is no longer than its parent's.
-    let Next::Row(m) = own else {
-        return Answer::TooLarge;
+    let Ok(m) = child_row(store, p as usize, first) else {
+        return Err(Refusal::TooLarge);
     };
     let next = word_row(store, p as usize, word_of(PID, 0, f), out);
     make_spawn(store, p as usize, f as usize, next, out, &first[..m])
@@ -105,10 +102,10 @@ fn spawn_at(store: &mut [u32], p: u32, f: u32, out: &mut [u32], first: &mut [u32
     ensures { Does (spawn_into p f) store.old store.new result }
 {
     if places(store) <= f as usize {
-        return Answer::PlaceTaken;
+        return Err(Refusal::PlaceTaken);
     }
     if in_pool(store, f) {
-        return Answer::PlaceTaken;
+        return Err(Refusal::PlaceTaken);
     }
     spawn_free(store, p, f, out, first)
 }
@@ -120,13 +117,8 @@ pub fn spawn_live(store: &mut [u32], p: u32, f: u32, out: &mut [u32], first: &mu
 {
     let d = doing(store, p as usize);
     match d {
-        Doing::Finished => Answer::Finished,
-        Doing::Stuck => Answer::WrongCommand,
-        Doing::Seq => Answer::WrongCommand,
-        Doing::Send(_t) => Answer::WrongCommand,
-        Doing::Receive => Answer::WrongCommand,
+        Doing::Finished => Err(Refusal::Finished),
         Doing::Spawn => spawn_at(store, p, f, out, first),
-        Doing::Own => Answer::WrongCommand,
-        Doing::Check(_k) => Answer::WrongCommand,
+        _ => Err(Refusal::WrongCommand),
     }
 }

@@ -1,17 +1,15 @@
 -- Sizes in range: how far the numbers of the layout go.
 use Prim.Native.Nat.{ℕ, suc, ◌+◌, ◌*◌, ◌≤◌, ◌<◌}
-use mathlib.Core.Path.{◌≡◌, sym, ◌∙◌}
+use mathlib.Core.Path.{◌≡◌, ap}
 use mathlib.Core.Bool.{true, false}
 use mathlib.Core.Logic.{inl, inr}
 use native.Mathlib.Nat.{mul-le-mul}
 use native.Mathlib.Omega.{arith}
-use lib.Dec.{leb}
-use Rattle.lists.proofs.Tests.{leb_of, leb-true, and_of, true_or_false, true_not_false}
+use Rattle.lists.proofs.Tests.{leb_of, and_of, true_or_false}
 use Rattle.lists.proofs.Blocks.{block_in}
 use Rattle.rules.specs.State.{Sizes}
 use Rattle.rules.specs.Load.{good_sizes}
-use Rattle.store.specs.Layout.{blocks_from, names_room, slot_size, slot_count, block_size, needed, most_places, most_entries, most_names, longest_slot, longest_block}
-use Rattle.store.specs.Sizing.{sizes_of}
+use Rattle.store.specs.Layout.{blocks_from, names_room, slot_size, slot_count, block_size, needed, most_places, most_entries, most_names, longest_slot, longest_block, longest_store}
 use Rattle.store.proofs.SoundStates.{SizesIn, sizes_in_lem}
 
 -- ---- the test of sizes
@@ -23,15 +21,8 @@ in_good sizes x =
     (leb_of 1 sizes.entries x.entries_low)) (leb_of sizes.entries 64 x.entries_high))
     (leb_of 16 sizes.words x.words_low)) (leb_of sizes.words 255 x.words_high)
 
-pub not_good : (sizes : Sizes) → ¬ SizesIn sizes → false ≡ good_sizes sizes
-not_good sizes n = elim (true_or_false (good_sizes sizes)) [ inl t ↦ absurd (n (sizes_in_lem sizes t)) | inr f ↦ sym f ]
-
--- five tests passed, the last one decides
-pub last_size : (places entries words : ℕ) → 1 ≤ places → places ≤ 16 → 1 ≤ entries → entries ≤ 64 → 16 ≤ words → leb words 255 ≡ good_sizes (sizes_of places entries words)
-last_size places entries words a b c d e = elim (true_or_false (leb words 255)) [
-  | inl t ↦ t ∙ sym (in_good (sizes_of places entries words) (record { places_low = a; places_high = b; entries_low = c; entries_high = d; words_low = e; words_high = leb-true words 255 t }))
-  | inr f ↦ f ∙ not_good (sizes_of places entries words) (λ x. true_not_false (leb_of words 255 x.words_high) f)
-]
+pub not_good : (sizes : Sizes) → ¬ SizesIn sizes → good_sizes sizes ≡ false
+not_good sizes n = elim (true_or_false (good_sizes sizes)) [ inl t ↦ absurd (n (sizes_in_lem sizes t)) | inr f ↦ f ]
 
 -- ---- how far the numbers go
 
@@ -51,3 +42,7 @@ module _ (sizes : Sizes) (good : good_sizes sizes ≡ true) where
   -- a slot lies within the needed words
   pub slot_within : (p i : ℕ) → p < sizes.places → i ≤ sizes.entries → blocks_from + p * block_size sizes + i * slot_size sizes + slot_size sizes ≤ needed sizes
   slot_within p i hp hi = omega (arith, block_in p sizes.places (block_size sizes) hp, block_in i (slot_count sizes) (slot_size sizes) (omega arith))
+
+  -- so its start is a small number, from the lengths that the code has
+  pub start_most : (p i block slot : ℕ) → block ≡ block_size sizes → slot ≡ slot_size sizes → p < sizes.places → i ≤ sizes.entries → blocks_from + p * block + i * slot ≤ longest_store
+  start_most p i block slot eb es hp hi = omega (arith, ap (λ (n : ℕ). p * n) eb, ap (λ (n : ℕ). i * n) es, slot_within p i hp hi, blocks_most)

@@ -2,29 +2,28 @@
 use Prim.Native.Nat.{ℕ, ◌≤◌, ◌<◌}
 use mathlib.Core.Path.{◌≡◌, refl, sym, ◌∙◌, ap}
 use mathlib.Core.Logic.{inl, inr}
-use mathlib.Core.Bool.{Bool, true, false, not, ◌&&◌}
+use mathlib.Core.Bool.{Bool, true, false, ◌&&◌}
 use mathlib.Core.Option.{Option, none, some}
 use mathlib.Core.List.{List, ◌++◌}
 use native.Mathlib.Omega.{arith}
+use Rattle.std.specs.Prelude.{Result, Ok, Err, ⊤}
 use lib.Dec.{leb}
 use lib.ListN.{length, drop}
-use Rattle.lists.proofs.Tests.{true_not_false, true_or_false, leb_of, leb_over, and_of, and_right, not_true, not_false}
+use Rattle.lists.proofs.Tests.{true_not_false, true_or_false, leb_of, leb_over, and_of, and_right}
 use Rattle.term.specs.Module.{check_module}
 use Rattle.checks.specs.Checking.{bad_of}
-use Rattle.checks.specs.declared.module.Checked.{Checked}
-use Rattle.checks.specs.declared.module.Checked.TheVariants.{Good, Bad}
+use Rattle.rows.specs.declared.terms.BadWord.{BadWord}
 use Rattle.rules.specs.Answers.{done, bad_module, bad_sizes}
 use Rattle.rules.specs.State.{Sizes}
 use Rattle.rules.specs.Load.{good_sizes, loaded, Load, refused, loads, load}
 use Rattle.store.specs.Layout.{needed, image}
-use Rattle.store.specs.Sizing.{sizes_of}
 use Rattle.store.specs.Loading.{load_number, load_value, Outcome, after_load, load_into, LoadAnswers}
-use Rattle.store.specs.declared.load.Loaded.{Loaded}
-use Rattle.store.specs.declared.load.Loaded.TheVariants.{Done, BadSizes, BadModule}
+use Rattle.store.specs.declared.load.LoadError.{LoadError}
+use Rattle.store.specs.declared.load.LoadError.TheVariants.{BadSizes, BadModule}
 use Rattle.store.proofs.SoundStates.{module_short}
 
 module _ (module' : List ℕ) (sizes : Sizes) (l : List ℕ) where
-  answers : (x : List ℕ) (r : Loaded) (o : Outcome) → load_into module' sizes l ≡ o → load_number r ≡ o.number → load_value r ≡ o.value → x ≡ o.left → LoadAnswers module' sizes l x r
+  answers : (x : List ℕ) (r : Result ⊤ LoadError) (o : Outcome) → load_into module' sizes l ≡ o → load_number r ≡ o.number → load_value r ≡ o.value → x ≡ o.left → LoadAnswers module' sizes l x r
   answers x r o e a b c = record { number = a ∙ ap (λ (y : Outcome). y.number) (sym e); value = b ∙ ap (λ (y : Outcome). y.value) (sym e); left = c ∙ ap (λ (y : Outcome). y.left) (sym e) }
 
   -- bad sizes are refused by the load itself, and a short store before it
@@ -39,9 +38,9 @@ module _ (module' : List ℕ) (sizes : Sizes) (l : List ℕ) where
   unfolding load_into
   into_load e = rw (and_right (good_sizes sizes) (leb (needed sizes) (length l)) e, load_into) refl
 
-  refuses : (good_sizes sizes && leb (needed sizes) (length l)) ≡ false → LoadAnswers module' sizes l l BadSizes
+  refuses : (good_sizes sizes && leb (needed sizes) (length l)) ≡ false → LoadAnswers module' sizes l l (Err BadSizes)
   unfolding load_number load_value
-  refuses e = answers l BadSizes (record { number = bad_sizes; value = 0; left = l }) (into_short e) refl refl refl
+  refuses e = answers l (Err BadSizes) (record { number = bad_sizes; value = 0; left = l }) (into_short e) refl refl refl
 
   abbrev on_module : Option ℕ → Load
   on_module o = elim o as (λ x. Load) [ some at ↦ refused bad_module at | none ↦ loads (loaded module' sizes) ]
@@ -57,7 +56,7 @@ module _ (module' : List ℕ) (sizes : Sizes) (l : List ℕ) where
   load_loads g e = chosen g ∙ ap on_module e
 
 -- a module that passes fits its room
-pub good_short : (module' : List ℕ) (checked : Checked) → bad_of checked ≡ check_module module' → checked ≡ Good → length module' ≤ 512
+pub good_short : (module' : List ℕ) (checked : Result ⊤ BadWord) → bad_of checked ≡ check_module module' → checked ≡ Ok tt → length module' ≤ 512
 unfolding bad_of
 good_short module' checked ec e = module_short module' (sym ec ∙ ap bad_of e)
 
@@ -65,50 +64,47 @@ pub and_short : (a b : Bool) → b ≡ false → (a && b) ≡ false
 and_short true b e = e
 and_short false b e = refl
 
-module _ (module' l : List ℕ) (places entries words : ℕ) where
-  pub load_bad_sizes : (r : Bool) → r ≡ good_sizes (sizes_of places entries words) → not r ≡ true → LoadAnswers module' (sizes_of places entries words) l l BadSizes
-  load_bad_sizes r e f = refuses module' (sizes_of places entries words) l (ap (λ (b : Bool). b && leb (needed (sizes_of places entries words)) (length l)) (sym e ∙ not_true r f))
+module _ (module' l : List ℕ) (sizes : Sizes) where
+  pub load_bad_sizes : good_sizes sizes ≡ false → LoadAnswers module' sizes l l (Err BadSizes)
+  load_bad_sizes f = refuses module' sizes l (ap (λ (b : Bool). b && leb (needed sizes) (length l)) f)
 
-  module _ (n : ℕ) (en : n ≡ needed (sizes_of places entries words)) where
-    pub load_short : length l < n → LoadAnswers module' (sizes_of places entries words) l l BadSizes
-    load_short h = refuses module' (sizes_of places entries words) l (and_short (good_sizes (sizes_of places entries words)) (leb (needed (sizes_of places entries words)) (length l)) (leb_over (needed (sizes_of places entries words)) (length l) (omega arith)))
+  module _ (n : ℕ) (en : n ≡ needed sizes) where
+    pub load_short : length l < n → LoadAnswers module' sizes l l (Err BadSizes)
+    load_short h = refuses module' sizes l (and_short (good_sizes sizes) (leb (needed sizes) (length l)) (leb_over (needed sizes) (length l) (omega arith)))
 
-    module _ (r : Bool) (er : r ≡ good_sizes (sizes_of places entries words)) (tr : not r ≡ false) (long : n ≤ length l) (checked : Checked) (ec : bad_of checked ≡ check_module module') where
-      good : good_sizes (sizes_of places entries words) ≡ true
-      good = sym er ∙ not_false r tr
+    module _ (good : good_sizes sizes ≡ true) (long : n ≤ length l) (checked : Result ⊤ BadWord) (ec : bad_of checked ≡ check_module module') where
+      passes : (good_sizes sizes && leb (needed sizes) (length l)) ≡ true
+      passes = and_of good (leb_of (needed sizes) (length l) (omega arith))
 
-      passes : (good_sizes (sizes_of places entries words) && leb (needed (sizes_of places entries words)) (length l)) ≡ true
-      passes = and_of good (leb_of (needed (sizes_of places entries words)) (length l) (omega arith))
-
-      pub load_bad_module : (at : ℕ) → checked ≡ Bad at → LoadAnswers module' (sizes_of places entries words) l l (BadModule at)
+      pub load_bad_module : (bad : BadWord) → checked ≡ Err bad → LoadAnswers module' sizes l l (Err (BadModule bad))
       unfolding bad_of after_load load_number load_value
-      load_bad_module at e =
-          answers module' (sizes_of places entries words) l l (BadModule at) (record { number = bad_module; value = at; left = l })
-          (into_load module' (sizes_of places entries words) l passes ∙ ap (after_load l) (load_refused module' (sizes_of places entries words) l at good (sym ec ∙ ap bad_of e))) refl refl refl
+      load_bad_module bad e =
+          answers module' sizes l l (Err (BadModule bad)) (record { number = bad_module; value = bad.0; left = l })
+          (into_load module' sizes l passes ∙ ap (after_load l) (load_refused module' sizes l bad.0 good (sym ec ∙ ap bad_of e))) refl refl refl
 
-      pub good_module : checked ≡ Good → check_module module' ≡ none
+      pub good_module : checked ≡ Ok tt → check_module module' ≡ none
       unfolding bad_of
       good_module e = sym ec ∙ ap bad_of e
 
-      pub load_done : (x : List ℕ) → checked ≡ Good → x ≡ image (loaded module' (sizes_of places entries words)) ++ drop (needed (sizes_of places entries words)) l → LoadAnswers module' (sizes_of places entries words) l x Done
+      pub load_done : (x : List ℕ) → checked ≡ Ok tt → x ≡ image (loaded module' sizes) ++ drop (needed sizes) l → LoadAnswers module' sizes l x (Ok tt)
       unfolding after_load load_number load_value loaded
       load_done x e ex =
-          answers module' (sizes_of places entries words) l x Done (record { number = done; value = 0; left = image (loaded module' (sizes_of places entries words)) ++ drop (needed (sizes_of places entries words)) l })
-          (into_load module' (sizes_of places entries words) l passes ∙ ap (after_load l) (load_loads module' (sizes_of places entries words) l good (good_module e))) refl refl ex
+          answers module' sizes l x (Ok tt) (record { number = done; value = 0; left = image (loaded module' sizes) ++ drop (needed sizes) l })
+          (into_load module' sizes l passes ∙ ap (after_load l) (load_loads module' sizes l good (good_module e))) refl refl ex
 
 -- ---- the answer and the store that is left are determined
 
-same_answer : (r s : Loaded) → load_number r ≡ load_number s → load_value r ≡ load_value s → r ≡ s
+same_answer : (r s : Result ⊤ LoadError) → load_number r ≡ load_number s → load_value r ≡ load_value s → r ≡ s
 unfolding load_number load_value
-same_answer Done Done a b = refl
-same_answer Done BadSizes a b = absurd (omega arith)
-same_answer Done (BadModule at) a b = absurd (omega arith)
-same_answer BadSizes Done a b = absurd (omega arith)
-same_answer BadSizes BadSizes a b = refl
-same_answer BadSizes (BadModule at) a b = absurd (omega arith)
-same_answer (BadModule at) Done a b = absurd (omega arith)
-same_answer (BadModule at) BadSizes a b = absurd (omega arith)
-same_answer (BadModule at) (BadModule at') a b = ap BadModule b
+same_answer (Ok t) (Ok u) a b = refl
+same_answer (Ok t) (Err BadSizes) a b = absurd (omega arith)
+same_answer (Ok t) (Err (BadModule bad)) a b = absurd (omega arith)
+same_answer (Err BadSizes) (Ok t) a b = absurd (omega arith)
+same_answer (Err BadSizes) (Err BadSizes) a b = refl
+same_answer (Err BadSizes) (Err (BadModule bad)) a b = absurd (omega arith)
+same_answer (Err (BadModule bad)) (Ok t) a b = absurd (omega arith)
+same_answer (Err (BadModule bad)) (Err BadSizes) a b = absurd (omega arith)
+same_answer (Err (BadModule bad)) (Err (BadModule worse)) a b = λ i. Err (BadModule (record { 0 = b i }))
 
-pub load_determined : (module' : List ℕ) (sizes : Sizes) (l x y : List ℕ) (r s : Loaded) → LoadAnswers module' sizes l x r → LoadAnswers module' sizes l y s → (x ≡ y) × (r ≡ s)
+pub load_determined : (module' : List ℕ) (sizes : Sizes) (l x y : List ℕ) (r s : Result ⊤ LoadError) → LoadAnswers module' sizes l x r → LoadAnswers module' sizes l y s → (x ≡ y) × (r ≡ s)
 load_determined module' sizes l x y r s a b = (a.left ∙ sym b.left, same_answer r s (a.number ∙ sym b.number) (a.value ∙ sym b.value))

@@ -17,7 +17,8 @@ use Rattle.demands.proofs.Consequences.{consequences}
 use Rattle.store.specs.Layout.{needed, image}
 use Rattle.store.specs.Image.{IsImage}
 use Rattle.store.specs.Loading.{load_number, Outcome, after_load, load_into, LoadAnswers}
-use Rattle.store.specs.declared.load.Loaded.{Loaded}
+use Rattle.std.specs.Prelude.{Result, ⊤}
+use Rattle.store.specs.declared.load.LoadError.{LoadError}
 use Rattle.store.proofs.LoadCodeAnswers.{and_short, into_short, into_load, load_refused, load_loads}
 
 module _ (module' : List ℕ) (sizes : Sizes) (l : List ℕ) where
@@ -41,7 +42,7 @@ module _ (module' : List ℕ) (sizes : Sizes) (l : List ℕ) where
       go g h (some at) e = bad at (into_load module' sizes l (and_of g h) ∙ ap (after_load l) (load_refused module' sizes l at g e))
       go g h none e = let it = load_loads module' sizes l g e in good it (into_load module' sizes l (and_of g h) ∙ ap (after_load l) it)
 
-  module _ (x : List ℕ) (r : Loaded) (a : LoadAnswers module' sizes l x r) where
+  module _ (x : List ℕ) (r : Result ⊤ LoadError) (a : LoadAnswers module' sizes l x r) where
     number_of : {o : Outcome} → load_into module' sizes l ≡ o → load_number r ≡ o.number
     number_of e = a.number ∙ ap (λ (o : Outcome). o.number) e
 

@@ -1,5 +1,5 @@
 -- The test of a slot: what each of its answers stands on.
-use Prim.Native.Nat.{ℕ, ◌+◌, ◌-◌, ◌*◌, ◌≤◌, ◌<◌}
+use Prim.Native.Nat.{ℕ, ◌+◌, ◌-◌, ◌*◌, ◌≤◌}
 use mathlib.Core.Path.{◌≡◌, sym, ◌∙◌, ap, subst}
 use mathlib.Core.Bool.{Bool, true, false, not}
 use mathlib.Core.List.{List, [], ◌∷◌}
@@ -47,17 +47,8 @@ behind_last a n k w h e = behind_part a n k w h ∙ ap (λ (m : ℕ). take (m - 
 -- ---- the answers
 
 module _ (places entries words : ℕ) (w : List ℕ) where
-  pub slot_no_3 : ¬ (get_or w 3 0 ≡ 0) → Decides (WellSlot (sizes_of places entries words) w) false
-  slot_no_3 n = no_to (λ x. n x.zero_3)
-
   pub slot_no_head : (r : Bool) → length w ≡ slot_size (sizes_of places entries words) → Decides (All IsZero (take 3 (drop 5 w))) r → not r ≡ true → Decides (WellSlot (sizes_of places entries words) w) false
   slot_no_head r e d f = no_to (λ x. refuted d (not_true r f) (three_zeros w (omega arith) x.zero_5 x.zero_6 x.zero_7))
-
-  pub slot_no_control : (n : ℕ) → n ≡ get_or w 1 0 → words < n → Decides (WellSlot (sizes_of places entries words) w) false
-  slot_no_control n e h = no_to (λ x. omega (arith, x.control_fits))
-
-  pub slot_no_names : (n : ℕ) → n ≡ get_or w 4 0 → places * entries < n → Decides (WellSlot (sizes_of places entries words) w) false
-  slot_no_names n e h = no_to (λ x. omega (arith, x.names_fit))
 
   pub slot_no_control_zeros : (n : ℕ) (r : Bool) → n ≡ get_or w 1 0 → n ≤ words → Decides (All IsZero (take (8 + words - (8 + n)) (drop (8 + n) w))) r → not r ≡ true → Decides (WellSlot (sizes_of places entries words) w) false
   slot_no_control_zeros n r e h d f = no_to (λ x. refuted d (not_true r f) (subst (All IsZero) (ap (λ (m : ℕ). drop m (mid_of slot_head words w)) (sym e) ∙ behind_part slot_head words n w h) x.control_zeros))

@@ -4,5 +4,6 @@ pub mod Image
 pub mod ImageLaws
 pub mod Cases
 pub mod Sizing
+pub mod Sized
 pub mod Formed
 pub mod Loading

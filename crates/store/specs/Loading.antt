@@ -1,22 +1,22 @@
 -- What a load answers and leaves in the store that it is lent.
-use Rattle.std.specs.Prelude.{ℕ, ◌≡◌, true, false, List, ◌++◌, leb, length, drop}
+use Rattle.std.specs.Prelude.{ℕ, ◌≡◌, true, false, List, ◌++◌, leb, length, drop, Result, Ok, Err, ⊤}
 use Rattle.rules.specs.Answers.{done, bad_module, bad_sizes}
 use Rattle.rules.specs.State.{Sizes}
 use Rattle.rules.specs.Load.{Load, refused, loads, load}
 use Rattle.store.specs.Layout.{needed, image}
-use Rattle.store.specs.declared.load.Loaded.{Loaded}
-use Rattle.store.specs.declared.load.Loaded.TheVariants.{Done, BadSizes, BadModule}
+use Rattle.store.specs.declared.load.LoadError.{LoadError}
+use Rattle.store.specs.declared.load.LoadError.TheVariants.{BadSizes, BadModule}
 
 -- 01's number of an answer of the code, and the position that goes with it: "Positions and counts are 0 elsewhere."
-unfoldable pub load_number : Loaded → ℕ
-load_number Done = done
-load_number BadSizes = bad_sizes
-load_number (BadModule at) = bad_module
+unfoldable pub load_number : Result ⊤ LoadError → ℕ
+load_number (Ok t) = done
+load_number (Err BadSizes) = bad_sizes
+load_number (Err (BadModule bad)) = bad_module
 
-unfoldable pub load_value : Loaded → ℕ
-load_value Done = 0
-load_value BadSizes = 0
-load_value (BadModule at) = at
+unfoldable pub load_value : Result ⊤ LoadError → ℕ
+load_value (Ok t) = 0
+load_value (Err BadSizes) = 0
+load_value (Err (BadModule bad)) = bad.0
 
 -- a number, its value, and the words that are left
 pub record Outcome : Type 0 where
@@ -36,7 +36,7 @@ load_into module' sizes l = elim (leb (needed sizes) (length l)) [
   | true ↦ after_load l (load module' sizes)
 ]
 
-pub record LoadAnswers (module' : List ℕ) (sizes : Sizes) (entry exit : List ℕ) (r : Loaded) : Type 0 where
+pub record LoadAnswers (module' : List ℕ) (sizes : Sizes) (entry exit : List ℕ) (r : Result ⊤ LoadError) : Type 0 where
   pub number : load_number r ≡ (load_into module' sizes entry).number
   pub value : load_value r ≡ (load_into module' sizes entry).value
   pub left : exit ≡ (load_into module' sizes entry).left

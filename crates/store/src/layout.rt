@@ -1,9 +1,4 @@
-// The layout of the store: its sizes, and where its parts stand.
-ghost use Rattle.std.specs.Prelude.{◌≡◌, true};
-ghost use Rattle.rules.specs.Load.{good_sizes};
-ghost use Rattle.store.specs.Layout.{slot_size, block_size, needed as needed_of};
-ghost use Rattle.store.specs.Sizing.{sizes_of};
-
+// The layout of the store: where its parts stand, and how large they can be.
 use checks::module::LONGEST;
 
 // The head of a store: P, H, W and the module's length; then the module's words; then a block for each place.
@@ -36,13 +31,13 @@ pub const SLOT_ZEROS: usize = 5;
 pub const SLOT_HEAD: usize = 8;
 
 // The most that sizes allow, and the least words of an expression.
-const MOST_PLACES: u32 = 16;
+pub const MOST_PLACES: u32 = 16;
 
-const MOST_ENTRIES: u32 = 64;
+pub const MOST_ENTRIES: u32 = 64;
 
-const LEAST_WORDS: u32 = 16;
+pub const LEAST_WORDS: u32 = 16;
 
-const MOST_WORDS: u32 = 255;
+pub const MOST_WORDS: u32 = 255;
 
 // Room for a mark for each place, for a control, and for all the names that there can be.
 pub const PLACES_ROOM: usize = MOST_PLACES as usize;
@@ -54,7 +49,8 @@ pub const NAMES_ROOM: usize = PLACES_ROOM * MOST_ENTRIES as usize;
 // Room for a whole slot.
 pub const SLOT_ROOM: usize = SLOT_HEAD + CONTROL_ROOM + NAMES_ROOM;
 
-// The kinds of slots: free, an entry of each kind, the present of a process.
+// The kinds of slots: free, an entry of each kind, the present of a process. Numbers and no enum: they are words of a store that C lends,
+// where any number can stand, and callers of `enter` and `make` give a kind as such a word.
 pub const FREE: u32 = 0;
 
 pub const SEQ: u32 = 1;
@@ -70,49 +66,3 @@ pub const SELF: u32 = 5;
 pub const CHECK: u32 = 6;
 
 pub const LIVE: u32 = 7;
-
-// Whether sizes are within their ranges.
-pub fn sizes_good(places: u32, entries: u32, words: u32) -> bool
-    ensures { result ≡ good_sizes (sizes_of places entries words) }
-{
-    if places < 1 {
-        return false;
-    }
-    if MOST_PLACES < places {
-        return false;
-    }
-    if entries < 1 {
-        return false;
-    }
-    if MOST_ENTRIES < entries {
-        return false;
-    }
-    if words < LEAST_WORDS {
-        return false;
-    }
-    words <= MOST_WORDS
-}
-
-// How many words a slot has.
-pub fn slot_size(places: usize, entries: usize, words: usize) -> usize
-    requires { good_sizes (sizes_of places entries words) ≡ true }
-    ensures { result ≡ slot_size (sizes_of places entries words) }
-{
-    SLOT_HEAD + (words + places * entries)
-}
-
-// How many words a block has: a slot for the present and one for each entry.
-pub fn block_size(places: usize, entries: usize, words: usize) -> usize
-    requires { good_sizes (sizes_of places entries words) ≡ true }
-    ensures { result ≡ block_size (sizes_of places entries words) }
-{
-    (entries + 1) * slot_size(places, entries, words)
-}
-
-// How many words a store needs.
-pub fn needed(places: usize, entries: usize, words: usize) -> usize
-    requires { good_sizes (sizes_of places entries words) ≡ true }
-    ensures { result ≡ needed_of (sizes_of places entries words) }
-{
-    BLOCKS + places * block_size(places, entries, words)
-}

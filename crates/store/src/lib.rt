@@ -4,6 +4,7 @@
 pub mod fill;
 pub mod layout;
 pub mod load;
+pub mod sizes;
 pub mod slot;
 pub mod well_formed;
 pub mod zeros;

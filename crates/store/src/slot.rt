@@ -1,18 +1,8 @@
-// Slots: where they start, and how long their controls and queues are.
-ghost use Rattle.std.specs.Prelude.{◌≡◌, true, ◌+◌, ◌*◌, ◌<◌, ◌≤◌, length, get_or};
-ghost use Rattle.rules.specs.Load.{good_sizes};
-ghost use Rattle.store.specs.Layout.{blocks_from, slot_head, slot_size, block_size};
-ghost use Rattle.store.specs.Sizing.{sizes_of};
+// Slots: how long their controls and queues are.
+ghost use Rattle.std.specs.Prelude.{◌≡◌, ◌≤◌, length, get_or};
+ghost use Rattle.store.specs.Layout.{slot_head};
 
-use crate::layout::{BLOCKS, SLOT_QUEUE, SLOT_WORDS, block_size, slot_size};
-
-// Where slot i of place p starts.
-pub fn slot_start(places: usize, entries: usize, words: usize, p: usize, i: usize) -> usize
-    requires { (good_sizes (sizes_of places entries words) ≡ true) × (p < places) × (i ≤ entries) }
-    ensures { result ≡ blocks_from + p * block_size (sizes_of places entries words) + i * slot_size (sizes_of places entries words) }
-{
-    BLOCKS + p * block_size(places, entries, words) + i * slot_size(places, entries, words)
-}
+use crate::layout::{SLOT_QUEUE, SLOT_WORDS};
 
 // How many words its control has.
 pub fn control_length(slot: &[u32]) -> usize

@@ -8,12 +8,10 @@ pub fn zeros(part: &[u32]) -> bool
     ensures { Decides (All IsZero part.now) result }
 {
     let mut all = true;
-    let mut i = 0;
-    while i < part.len() {
-        if part[i] != 0 {
+    for word in part {
+        if *word != 0 {
             all = false;
         }
-        i += 1;
     }
     all
 }

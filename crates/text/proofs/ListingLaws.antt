@@ -1,5 +1,5 @@
 -- Laws of the listing's lines.
-use mathlib.Core.Path.{◌≡◌}
+use mathlib.Core.Path.{◌≡◌, refl}
 use mathlib.Core.List.{List, map}
 use Prim.Native.Nat.{ℕ, ◌+◌, ◌*◌, ◌/◌, ◌%◌, ◌<◌}
 use native.Mathlib.Omega.{arith}
@@ -10,14 +10,18 @@ use mathlib.Core.Option.{some}
 use lib.ListN.{length}
 use Rattle.rules.specs.State.{Message, name_base, Process}
 use Rattle.rules.specs.Listing.{name_text, message_text, newest_name, process_lines}
-use Rattle.text.specs.declared.listing.Newest.{Newest}
+use Rattle.std.proofs.Common.{Option, None, Some}
+use Rattle.kinds.specs.declared.Kind.{Kind}
 use Rattle.text.specs.Written.{Wrote}
 use Rattle.text.proofs.WritingLaws.{wrote_then}
 use Rattle.text.specs.Lines.{name_in, newest_text, newest_bytes, pid_line, history_line, newest_line, queue_line, words_line, process_text}
 
 -- the newest entry's kind is known
-pub wrote_kind : (newest kind : Newest) {old new : List ℕ} {at e : ℕ} → newest ≡ kind → Wrote (newest_bytes kind) at old new e → Wrote (newest_bytes newest) at old new e
-wrote_kind newest kind i w = rw i w
+pub kind_known : (newest : Option Kind) (kind known : Kind) → newest ≡ Some kind → kind ≡ known → newest_bytes (Some known) ≡ newest_bytes newest
+kind_known newest kind known i j = rw (i, j) refl
+
+pub none_known : (newest : Option Kind) → newest ≡ None → newest_bytes None ≡ newest_bytes newest
+none_known newest i = rw i refl
 
 -- a name in a word
 pub name_in_lem : (s k : ℕ) → k < name_base → name_in (s * name_base + k) ≡ name_text s k
@@ -28,7 +32,7 @@ name_in_lem s k h =
     rw (q, r)
 
 -- the five lines of a process
-pub process_lines_lem : (p : ℕ) (process : Process) (queue : List Message) (entries : ℕ) (newest : Newest) (names words : List ℕ)
+pub process_lines_lem : (p : ℕ) (process : Process) (queue : List Message) (entries : ℕ) (newest : Option Kind) (names words : List ℕ)
     → entries ≡ length process.history → newest_text newest ≡ newest_name process.history → map name_in names ≡ map message_text queue → words ≡ process.control
     → process_text p entries newest names words ≡ process_lines p queue (some process)
 unfolding process_text pid_line history_line newest_bytes newest_line queue_line words_line process_lines

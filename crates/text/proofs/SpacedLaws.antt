@@ -1,11 +1,11 @@
 -- Laws of rows written with single spaces between their pieces.
 use mathlib.Core.Path.{◌≡◌, refl, sym, ap, ◌∙◌}
 use mathlib.Core.List.{List, [], ◌∷◌, ◌++◌, map, map-append, append_assoc}
-use Prim.Native.Nat.{ℕ, zero, suc, ◌+◌, ◌/◌, ◌%◌, ◌<◌, ◌≤◌}
+use Prim.Native.Nat.{ℕ, zero, suc, ◌+◌, ◌/◌, ◌%◌, ◌<◌}
 use native.Mathlib.Omega.{arith}
 use native.Mathlib.Numerals.{add-one}
 use lib.ListN.{length, take, get_or, length-map}
-use lib.Seq.{take-suc, take_all, length-take-le}
+use lib.Seq.{take-suc, length-take-le}
 use Rattle.rules.specs.State.{name_base}
 use Rattle.rules.specs.Text.{decimal, hex, spaced, space, point}
 use Rattle.rules.specs.Listing.{name_text}
@@ -30,9 +30,6 @@ module _ {A : Type 0} (f : A → List ℕ) where
   pub wrote_piece : (l : List A) (i : ℕ) (d : A) {old mid mid' new : List ℕ} {at b b' e : ℕ} → i < length l → Wrote (spaced (map f (take i l))) at old mid b → Wrote (gap i) b mid mid' b' → Wrote (f (get_or l i d)) b' mid' new e
       → Wrote (spaced (map f (take (i + 1) l))) at old new e
   wrote_piece l i d h w g v = rw (spaced_next l i d h) (wrote_then w (wrote_then g v))
-
-  pub wrote_pieces : (l : List A) (i : ℕ) {old new : List ℕ} {at e : ℕ} → length l ≤ i → Wrote (spaced (map f (take i l))) at old new e → Wrote (spaced (map f l)) at old new e
-  wrote_pieces l i h w = rw (take_all i l h) at w
 
 pub wrote_gap_none : (i : ℕ) {old : List ℕ} {at e : ℕ} → i ≡ 0 → e ≡ onward (at + 0) → length old < far → Wrote (gap i) at old old e
 unfolding gap

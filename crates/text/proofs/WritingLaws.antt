@@ -7,7 +7,7 @@ use native.Mathlib.Nat.{add-zero, add-suc, suc-add}
 use native.Mathlib.Numerals.{add-one}
 use native.Mathlib.Decide.{dec_le}
 use lib.ListN.{length, take, drop, get_or, set, length-append}
-use lib.Seq.{sets, sets-eq, length-sets, take-suc, take_all, set_out}
+use lib.Seq.{sets, sets-eq, length-sets, take-suc, set_out}
 use Rattle.rules.specs.Text.{line_feed}
 use Rattle.text.specs.Written.{far, onward, Wrote}
 
@@ -39,22 +39,13 @@ wrote_then {ws} {vs} {old} {mid} {new} {at} {b} {e} w v =
 pub wrote_none : (old : List ℕ) (at e : ℕ) → e ≡ onward (at + 0) → length old < far → Wrote [] at old old e
 wrote_none old at e h s = record { new_is = refl; end_is = h; short = s }
 
--- one byte
-pub wrote_in : (old : List ℕ) (at b : ℕ) → at < length old → length old < far → Wrote (b ∷ []) at old (set old at b) (at + 1)
-wrote_in old at b h s = record { new_is = refl; end_is = omega arith; short = s }
-
-pub wrote_out : (old : List ℕ) (at b e : ℕ) → length old ≤ at → e ≡ onward (at + 1) → length old < far → Wrote (b ∷ []) at old old e
-wrote_out old at b e h q s = record { new_is = sym (sets_out old at (b ∷ []) h); end_is = q; short = s }
-
+-- what is written leaves the output as long as it was
 pub wrote_length : {ws old new : List ℕ} {at e : ℕ} → Wrote ws at old new e → length new ≡ length old
 wrote_length {ws} {old} {new} {at} w = ap length w.new_is ∙ length-sets old at ws
 
 -- a row of bytes, one after another
 pub wrote_byte_more : (l : List ℕ) (i : ℕ) {old mid new : List ℕ} {at b e : ℕ} → i < length l → Wrote (take i l) at old mid b → Wrote (get_or l i 0 ∷ []) b mid new e → Wrote (take (i + 1) l) at old new e
 wrote_byte_more l i h w v = rw (add-one i, take-suc l i 0 h) (wrote_then w v)
-
-pub wrote_all : (l : List ℕ) (i : ℕ) {old new : List ℕ} {at e : ℕ} → length l ≤ i → Wrote (take i l) at old new e → Wrote l at old new e
-wrote_all l i h w = rw (take_all i l h) at w
 
 -- a line: a key, what follows it, LF
 pub wrote_line : {key text : List ℕ} {old mid mid' new : List ℕ} {at b b' e : ℕ} → Wrote key at old mid b → Wrote text b mid mid' b' → Wrote (line_feed ∷ []) b' mid' new e → Wrote (key ++ text ++ (line_feed ∷ [])) at old new e

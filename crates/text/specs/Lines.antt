@@ -1,27 +1,27 @@
 -- The lines of the listing, on numbers and words.
-use Rattle.std.specs.Prelude.{ℕ, ◌/◌, ◌%◌, List, ◌++◌, map}
+use Rattle.std.specs.Prelude.{ℕ, ◌/◌, ◌%◌, List, ◌++◌, map, Option, None, Some}
 use Prim.Native.String.{String}
 use Rattle.rules.specs.State.{name_base}
 use Rattle.rules.specs.Text.{bytes, decimal, hex, spaced, line}
 use Rattle.rules.specs.Listing.{name_text}
-use Rattle.text.specs.declared.listing.Newest.{Newest}
-use Rattle.text.specs.declared.listing.Newest.TheVariants.{Seq, Send, Rec, Spawn, Own, Check, Nothing}
+use Rattle.kinds.specs.declared.Kind.{Kind}
+use Rattle.kinds.specs.declared.Kind.TheVariants.{Seq, Send, Rec, Spawn, Own, Check}
 
 -- the name of a message that a word is
 unfoldable pub name_in : ℕ → List ℕ
 name_in w = name_text (w / name_base) (w % name_base)
 
 -- "newest is a kind or `none`"
-unfoldable pub newest_text : Newest → String
-newest_text Seq = "seq"
-newest_text Send = "send"
-newest_text Rec = "rec"
-newest_text Spawn = "spawn"
-newest_text Own = "self"
-newest_text Check = "check"
-newest_text Nothing = "none"
+unfoldable pub newest_text : Option Kind → String
+newest_text (Some Seq) = "seq"
+newest_text (Some Send) = "send"
+newest_text (Some Rec) = "rec"
+newest_text (Some Spawn) = "spawn"
+newest_text (Some Own) = "self"
+newest_text (Some Check) = "check"
+newest_text None = "none"
 
-unfoldable pub newest_bytes : Newest → List ℕ
+unfoldable pub newest_bytes : Option Kind → List ℕ
 newest_bytes newest = bytes (newest_text newest)
 
 unfoldable pub processes_line : ℕ → List ℕ
@@ -33,7 +33,7 @@ pid_line p = line "pid=" (decimal p)
 unfoldable pub history_line : ℕ → List ℕ
 history_line n = line "history=" (decimal n)
 
-unfoldable pub newest_line : Newest → List ℕ
+unfoldable pub newest_line : Option Kind → List ℕ
 newest_line newest = line "newest=" (newest_bytes newest)
 
 unfoldable pub queue_line : List ℕ → List ℕ
@@ -43,5 +43,5 @@ unfoldable pub words_line : List ℕ → List ℕ
 words_line words = line "words=" (spaced (map hex words))
 
 -- "The five lines from `pid`, the place"
-unfoldable pub process_text : (p entries : ℕ) → Newest → (names words : List ℕ) → List ℕ
+unfoldable pub process_text : (p entries : ℕ) → Option Kind → (names words : List ℕ) → List ℕ
 process_text p entries newest names words = pid_line p ++ history_line entries ++ newest_line newest ++ queue_line names ++ words_line words

@@ -1,4 +1,5 @@
-// Bytes written into a lent output at a position; past its end nothing is written, and the position still moves on.
+// Bytes written into a lent output at a position; past its end nothing is written, and the position still moves on. `Display` of std writes into no
+// such output, so numbers are written digit by digit.
 ghost use Rattle.std.specs.Prelude.{◌≡◌, [], ◌∷◌, map, ◌+◌, ◌<◌};
 ghost use Rattle.rules.specs.Text.{line_feed, decimal, hex, hex_in, hex_digit, spaced};
 ghost use Rattle.rules.specs.Listing.{name_text};
@@ -19,13 +20,7 @@ const WORD_DIGITS: u32 = 8;
 pub fn past(at: usize, n: usize) -> usize
     ensures { result ≡ onward (at + n) }
 {
-    if FAR <= at {
-        return FAR;
-    }
-    if FAR - at <= n {
-        return FAR;
-    }
-    at + n
+    at.saturating_add(n).min(FAR)
 }
 
 // One byte.
@@ -44,10 +39,8 @@ pub fn write_bytes(out: &mut [u8], at: usize, bytes: &[u8]) -> usize
     ensures { Wrote bytes.now at out.old out.new result }
 {
     let mut to = past(at, 0);
-    let mut i = 0;
-    while i < bytes.len() {
-        to = write_byte(out, to, bytes[i]);
-        i += 1;
+    for b in bytes {
+        to = write_byte(out, to, *b);
     }
     to
 }
@@ -116,11 +109,9 @@ pub fn write_words(out: &mut [u8], at: usize, words: &[u32]) -> usize
     ensures { Wrote (spaced (map hex words.now)) at out.old out.new result }
 {
     let mut to = past(at, 0);
-    let mut i = 0;
-    while i < words.len() {
+    for (i, w) in words.iter().enumerate() {
         let next = write_gap(out, to, i);
-        to = write_hex(out, next, words[i]);
-        i += 1;
+        to = write_hex(out, next, *w);
     }
     to
 }

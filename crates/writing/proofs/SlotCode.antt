@@ -3,11 +3,11 @@ use Prim.Native.Nat.{ℕ, zero, suc, ◌+◌, ◌-◌, ◌≤◌, ◌<◌}
 use mathlib.Core.Path.{◌≡◌, refl, sym, ◌∙◌, ap}
 use mathlib.Core.List.{List, [], ◌∷◌}
 use native.Mathlib.Omega.{arith}
-use lib.ListN.{length, drop, get_or, set, length-drop, length-set}
+use lib.ListN.{length, drop, get_or, set, replicate, length-drop, length-set}
 use lib.Seq.{length-take-le}
 use borrow.Rule.Slice.PartMut.{mid_of, put_mid, same_len_mid}
 use Rattle.lists.specs.Fill.{fill_to}
-use Rattle.lists.proofs.Fill.{fill_set}
+use Rattle.lists.proofs.Fill.{fill_none, fill_set}
 use Rattle.store.specs.Layout.{slot_head, kind_live}
 use Rattle.writing.specs.Slots.{headed, controlled, without, copied, cleared, shrunk_words, released_words, ControlRoom, NamesRoom, CopyRoom, TwoSlots}
 
@@ -96,10 +96,8 @@ pub run_same : (w y : List ℕ) (at k i v : ℕ) → length y ≡ length (mid_of
 run_same w y at k i v e = same_len_mid at k (set w i v) y e ∙ length-set w i v
 
 -- zeros
-pub zero_filled : (n : ℕ) (y : List ℕ) → y ≡ fill_to n 0 (0 ∷ []) → y ≡ fill_to n 0 []
-unfolding fill_to
-zero_filled zero y e = e
-zero_filled (suc n) y e = e
+pub zero_filled : (n : ℕ) (y : List ℕ) → y ≡ replicate n 0 → y ≡ fill_to n 0 []
+zero_filled n y e = e ∙ sym (fill_none n 0)
 
 -- ---- a store after two writes
 

@@ -15,22 +15,22 @@ use Rattle.writing.specs.declared.spans.Span.{Span}
 use Rattle.writing.specs.Slots.{Spanned, TwoSlots}
 use Rattle.reading.proofs.Holding.{at_image, of_state, sizes_read, sizes_read_lem, good_read, slot_in, slot_low}
 
-pub located : (l : List ℕ) (image : IsImage l) (p i from size : ℕ) → OfState l (IsPlace p) → OfState l (λ s. i ≤ s.sizes.entries)
-    → from ≡ blocks_from + p * block_size (sizes_read l) + i * slot_size (sizes_read l) → size ≡ slot_size (sizes_read l)
-    → Spanned p i l (record { from = from; «end» = from + size; words = get_or l 2 0 })
-located l image p i from size hp hi a z = record {
+pub located : (l : List ℕ) (image : IsImage l) (p i from size words : ℕ) → OfState l (IsPlace p) → OfState l (λ s. i ≤ s.sizes.entries)
+    → from ≡ blocks_from + p * block_size (sizes_read l) + i * slot_size (sizes_read l) → size ≡ slot_size (sizes_read l) → words ≡ get_or l 2 0
+    → Spanned p i l (record { from = from; «end» = from + size; words = words })
+located l image p i from size words hp hi a z w = record {
   adds = omega arith;
   inside = slot_in l image p i from size hp hi a z;
   low = slot_low l image p i from size hp hi a z;
   head_in = omega arith;
-  few_words = (sizes_in_lem (sizes_read l) (good_read l image)).words_high;
+  few_words = omega (arith, (sizes_in_lem (sizes_read l) (good_read l image)).words_high);
   small = omega (arith, slot_most (sizes_read l) (good_read l image));
   there = of_state _ λ s rest h.
       let same = sizes_read_lem l s rest h in
       record {
         from_is = a ∙ ap (λ (y : Sizes). blocks_from + p * block_size y + i * slot_size y) same;
         size_is = (let whole : from + size - from ≡ size = omega arith in whole) ∙ z ∙ ap (λ (y : Sizes). slot_size y) same;
-        words_are = words_word s rest l h.words;
+        words_are = w ∙ words_word s rest l h.words;
       };
 }
 

@@ -1,6 +1,5 @@
 // Writing into one slot, lent as its words.
-ghost use Rattle.std.specs.Prelude.{◌≡◌, ◌+◌, ◌<◌, length, get_or, []};
-ghost use Rattle.lists.specs.Fill.{fill_to};
+ghost use Rattle.std.specs.Prelude.{◌≡◌, ◌+◌, ◌<◌, length, get_or};
 ghost use Rattle.store.specs.Layout.{slot_head, kind_live};
 ghost use Rattle.writing.specs.Slots.{controlled, pushed, without, begun, copied, ControlRoom, NamesRoom, CopyRoom};
 
@@ -76,12 +75,4 @@ pub fn copy_slot(store: &mut [u32], from: usize, to: usize, count: usize, head: 
     held[SLOT_QUEUE] = head.queued;
     let to_end = to + count;
     fill(&mut store[to..to_end], &held);
-}
-
-// Zeros.
-pub fn clear(part: &mut [u32])
-    ensures { part.new ≡ fill_to (length part.old) 0 [] }
-{
-    let zero = [0u32];
-    fill(part, &zero);
 }

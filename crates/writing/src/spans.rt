@@ -4,8 +4,7 @@ ghost use Rattle.store.specs.Image.{IsImage};
 ghost use Rattle.reading.specs.Reads.{OfState, IsPlace};
 ghost use Rattle.writing.specs.Slots.{Spanned};
 
-use store::layout::{HEAD_ENTRIES, HEAD_PLACES, HEAD_WORDS, slot_size};
-use store::slot::slot_start;
+use store::sizes::Sizes;
 
 // The words of a slot, from one place to another, and the room that it has for a control.
 #[derive(Clone, Copy)]
@@ -20,14 +19,11 @@ pub fn locate(store: &[u32], p: usize, i: usize) -> Span
     requires { IsImage store.now × OfState store.now (IsPlace p) × OfState store.now (λ s. i ≤ s.sizes.entries) }
     ensures { Spanned p i store.now result }
 {
-    let places = store[HEAD_PLACES] as usize;
-    let entries = store[HEAD_ENTRIES] as usize;
-    let words = store[HEAD_WORDS] as usize;
-    let from = slot_start(places, entries, words, p, i);
-    let size = slot_size(places, entries, words);
+    let sizes = Sizes::at_head(store);
+    let from = sizes.slot_start(p, i);
     Span {
-        from: from,
-        end: from + size,
-        words: words,
+        from,
+        end: from + sizes.slot,
+        words: sizes.words,
     }
 }

@@ -5,11 +5,12 @@ ghost use Rattle.reading.specs.Reads.{OfState};
 ghost use Rattle.writing.specs.Slots.{shrunk_words, released_words, TwoSlots};
 ghost use Rattle.writing.specs.Writes.{Leads, Undoes, CanUndo};
 
-use crate::slots::{Head, clear, copy_slot};
+use crate::slots::{Head, copy_slot};
 use crate::spans::{Span, locate};
+use kinds::Kind;
 use reading::entries::{kind, number};
 use reading::state::entry_count;
-use store::layout::{LIVE, REC, SLOT_HEAD, SLOT_QUEUE, SPAWN};
+use store::layout::{LIVE, SLOT_HEAD, SLOT_QUEUE};
 
 // The control before of an entry returns to the present, which stands at `to`, and the entry goes.
 fn shrink(store: &mut [u32], entry: Span, to: usize)
@@ -23,10 +24,10 @@ fn shrink(store: &mut [u32], entry: Span, to: usize)
     let head = Head {
         kind: LIVE,
         number: 0,
-        queued: queued,
+        queued,
     };
     copy_slot(store, from, to, SLOT_HEAD + entry.words, head);
-    clear(&mut store[from..end]);
+    store[from..end].fill(0);
 }
 
 // The control and the queue before return.
@@ -41,10 +42,10 @@ fn release(store: &mut [u32], entry: Span, to: usize)
     let head = Head {
         kind: LIVE,
         number: 0,
-        queued: queued,
+        queued,
     };
     copy_slot(store, from, to, end - from, head);
-    clear(&mut store[from..end]);
+    store[from..end].fill(0);
 }
 
 // p's newest entry is undone: the control before it returns, a rec's queue before too, and a spawn's child goes.
@@ -55,19 +56,16 @@ pub fn undo(store: &mut [u32], p: usize)
     let count = entry_count(store, p);
     let present = locate(store, p, 0);
     let newest = locate(store, p, count);
-    let what = kind(store, p, count - 1);
-    if what == REC {
-        release(store, newest, present.from);
-        return;
+    match kind(store, p, count - 1) {
+        Kind::Rec => release(store, newest, present.from),
+        Kind::Spawn => {
+            let child = number(store, p, count - 1) as usize;
+            let gone = locate(store, child, 0);
+            let from = gone.from;
+            let end = gone.end;
+            shrink(store, newest, present.from);
+            store[from..end].fill(0);
+        }
+        _ => shrink(store, newest, present.from),
     }
-    if what == SPAWN {
-        let child = number(store, p, count - 1) as usize;
-        let gone = locate(store, child, 0);
-        let from = gone.from;
-        let end = gone.end;
-        shrink(store, newest, present.from);
-        clear(&mut store[from..end]);
-        return;
-    }
-    shrink(store, newest, present.from);
 }

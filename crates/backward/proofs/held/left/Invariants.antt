@@ -5,6 +5,3 @@ use Rattle.backward.proofs.held.left.Given as goal
 
 abbrev pub invariant-loop-i : goal.invariant-loop-i
 invariant-loop-i l = OfState l.store (NoRecFrom l.p l.i)
-
-abbrev pub decreases-loop-i : goal.decreases-loop-i
-decreases-loop-i l = l.i

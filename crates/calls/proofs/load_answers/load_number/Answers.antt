@@ -1,16 +1,17 @@
 -- `load_number` meets its contract.
-use mathlib.Core.Path.{sym, ap}
+use mathlib.Core.Path.{sym, ap, ◌∙◌}
+use Rattle.std.specs.Prelude.{Err}
 use Rattle.store.specs.Loading.{load_number}
 use Rattle.calls.proofs.load_answers.load_number.Goals as goal
 
-pub returns-in-Done : goal.returns-in-Done
+pub returns-in-Ok : goal.returns-in-Ok
 unfolding load_number
-returns-in-Done c = ap load_number (sym c.in-Done.is)
+returns-in-Ok c = sym (ap load_number c.in-Ok.is)
 
-pub returns-in-BadSizes : goal.returns-in-BadSizes
+pub returns-in-Err-BadSizes : goal.returns-in-Err-BadSizes
 unfolding load_number
-returns-in-BadSizes c = ap load_number (sym c.in-BadSizes.is)
+returns-in-Err-BadSizes c = let k = c.in-Err-BadSizes in sym (ap load_number (k.is ∙ ap Err (rw k.is at k.field-0-is)))
 
-pub returns-in-BadModule : goal.returns-in-BadModule
+pub returns-in-Err-BadModule : goal.returns-in-Err-BadModule
 unfolding load_number
-returns-in-BadModule c = ap load_number (sym c.in-BadModule.is)
+returns-in-Err-BadModule c = let k = c.in-Err-BadModule in sym (ap load_number (k.is ∙ ap Err (rw k.is at k.field-0-is)))

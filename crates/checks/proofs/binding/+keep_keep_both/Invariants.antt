@@ -4,7 +4,7 @@ use Prim.Native.Nat.{◌-◌, ◌+◌, ◌*◌}
 use Rattle.checks.proofs.binding.+keep_keep_both.Given as goal
 
 abbrev pub decreases-keep : goal.decreases-keep
-decreases-keep l = 2 * (length l.row.now - l.ahead.at)
+decreases-keep l = 2 * (length l.subject.now.row.now - l.ahead.at)
 
 abbrev pub decreases-keep_both : goal.decreases-keep_both
-decreases-keep_both l = 2 * (length l.row.now - l.both.at) + 1
+decreases-keep_both l = 2 * (length l.subject.now.row.now - l.ahead.at) + 1

@@ -1,12 +1,15 @@
 -- `checks::binding::light_word` meets its contract.
-use Rattle.checks.proofs.LightLaws.{light_integer, light_plain, light_not}
+use native.Mathlib.Omega.{arith}
+use Rattle.checks.proofs.LightLaws.{light_integer, light_plain}
 use Rattle.checks.proofs.binding.light_word.Goals as goal
+use Rattle.checks.proofs.binding.light_word.Goals.{in-2-1, in_default+else-this-lt2+then-this-lt9}
 
-pub returns-then-t-eq-INTEGER : goal.returns-then-t-eq-INTEGER
-returns-then-t-eq-INTEGER c = search light_integer
+pub returns-in-3 : goal.returns-in-3
+returns-in-3 c = search light_integer
 
-pub returns-then-between : goal.returns-then-between
-returns-then-between c = search light_plain
-
-pub returns : goal.returns
-returns c = search light_not
+pub returns-in-2-to-8 : goal.returns-in-2-to-8
+returns-in-2-to-8 c =
+    elim c.in-2-to-8-1.branch [
+      | in-2-1 w ↦ light_plain _ _ c.tag.ensures (λ i. omega (arith, i)) (omega arith) (omega arith) _ c.n.ensures
+      | in_default+else-this-lt2+then-this-lt9 w ↦ light_plain _ _ c.tag.ensures (λ i. omega (arith, i)) (omega arith) (omega arith) _ c.n.ensures
+    ]

@@ -2,8 +2,8 @@
 use Rattle.checks.proofs.MarkLaws.{no_function, some_function}
 use Rattle.checks.proofs.binding.named.Goals as goal
 
-pub returns-then-arities-function : goal.returns-then-arities-function
-returns-then-arities-function c = search no_function
+pub returns-then-function-arities : goal.returns-then-function-arities
+returns-then-function-arities c = search some_function
 
-pub returns : goal.returns
-returns c = search some_function
+pub returns-else-function-arities : goal.returns-else-function-arities
+returns-else-function-arities c = search no_function

@@ -13,19 +13,19 @@ returns-then-row-eq0 c = search empty_module
 pub loop-at-init : goal.loop-at-init
 loop-at-init c = (refl, omega arith, search so_far_start)
 
-pub returns-in-Fails : goal.returns-in-Fails
-returns-in-Fails c = search so_far_fails
+pub returns-in_err-end : goal.returns-in_err-end
+returns-in_err-end c = search (so_far_fails, c.in_err-end.ensures)
 
 pub loop-at-smaller : goal.loop-at-smaller
 loop-at-smaller c =
-    let f = further_ends 0 _ _ _ 1 _ _ (omega arith) c.read-one.ensures c.in-Ends.is in
+    let f = further_ends 0 _ _ _ 1 _ (omega arith) c.in_ok-end.ensures in
     omega arith
 
 pub loop-at-preserved : goal.loop-at-preserved
 loop-at-preserved c =
     let i = c.loop-at in
     let room : i.number < length i.counts = omega arith in
-    (omega (arith, length-set i.counts i.number c.n.result), omega (arith, length-set i.counts i.number c.n.result), search so_far_next)
+    (omega (arith, length-set i.counts i.number c.n.result), omega (arith, length-set i.counts i.number c.n.result), search (so_far_next, c.in_ok-end.ensures))
 
 pub returns : goal.returns
 returns c =

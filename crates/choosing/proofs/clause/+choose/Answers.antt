@@ -1,12 +1,14 @@
 -- `choose` meets its contract.
 use Rattle.choosing.proofs.RowClause.{choose_none, choose_past, choose_takes, choose_broken, choose_next}
 use Rattle.choosing.proofs.clause.+choose.Goals as goal
+use Rattle.choosing.proofs.clause.+choose.Goals.{then-n-eq0-via-then-n-eq0, then-n-eq0-via-else-n-eq0+then-c-at}
 
 pub returns-then-n-eq0 : goal.returns-then-n-eq0
-returns-then-n-eq0 t c = search choose_none
-
-pub returns-then-c-at : goal.returns-then-c-at
-returns-then-c-at t c = search choose_past
+returns-then-n-eq0 t c =
+    elim c.then-n-eq0.branch [
+      | then-n-eq0-via-then-n-eq0 w ↦ search choose_none
+      | then-n-eq0-via-else-n-eq0+then-c-at w ↦ search choose_past
+    ]
 
 pub returns-then-takes : goal.returns-then-takes
 returns-then-takes t c = search choose_takes

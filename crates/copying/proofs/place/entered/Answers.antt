@@ -2,17 +2,17 @@
 use Rattle.copying.proofs.RowPlace.{enters_receive, enters_case, enters_none, enters_let, enters_all}
 use Rattle.copying.proofs.place.entered.Goals as goal
 
-pub returns-then-t-eq-RECEIVE : goal.returns-then-t-eq-RECEIVE
-returns-then-t-eq-RECEIVE c = search enters_receive
+pub returns-in-12 : goal.returns-in-12
+returns-in-12 c = search enters_receive
 
-pub returns-then-t-eq-CASE : goal.returns-then-t-eq-CASE
-returns-then-t-eq-CASE c = search enters_case
+pub returns-in-10 : goal.returns-in-10
+returns-in-10 c = search enters_case
 
 pub returns-then-n-eq0 : goal.returns-then-n-eq0
 returns-then-n-eq0 c = search enters_none
 
-pub returns-then-t-eq-LET : goal.returns-then-t-eq-LET
-returns-then-t-eq-LET c = search enters_let
+pub returns-else-n-eq0 : goal.returns-else-n-eq0
+returns-else-n-eq0 c = search enters_let
 
-pub returns : goal.returns
-returns c = search enters_all
+pub returns-in_default : goal.returns-in_default
+returns-in_default c = search enters_all

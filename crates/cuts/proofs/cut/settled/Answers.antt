@@ -8,4 +8,4 @@ pub returns : goal.returns
 returns c =
     let a = c.args in
     let p = c.requires in
-    settled_settles _ _ _ _ p.0 (length-set a.levels.now a.x a.i ∙ p.3) c.lowered.ensures
+    settled_settles _ _ _ p.0 (length-set a.levels.now a.event.line a.event.index ∙ p.3) c.lowered.ensures

@@ -10,7 +10,7 @@ use Rattle.cuts.proofs.search.descend.Given as goal
 
 abbrev pub invariant-loop-x : goal.invariant-loop-x
 invariant-loop-x l =
-    (length l.level ≡ line_count) × (l.n + sum_of l.level ≡ sum_of l.levels) × Sought l.links l.count l.cut l.levels l.level l.n × Waiting l.links l.count l.level l.index
+    (length l.level ≡ line_count) × (l.n + sum_of l.level ≡ sum_of l.levels) × Sought l.links l.cut l.levels l.level l.n × Waiting l.links l.level l.index
 
 abbrev pub decreases-loop-x : goal.decreases-loop-x
 decreases-loop-x l = sum_of l.level

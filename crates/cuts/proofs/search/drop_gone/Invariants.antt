@@ -1,11 +1,11 @@
 -- `cuts::search::drop_gone` meets its contract.
-use Prim.Native.Nat.{◌-◌}
-use lib.ListN.{get_or}
+use Rattle.std.proofs.Common.{length}
+use Rattle.std.proofs.Common.{◌-◌, ◌≡◌, get_or}
 use Rattle.cuts.specs.Chains.{Waiting}
 use Rattle.cuts.proofs.search.drop_gone.Given as goal
 
-abbrev pub invariant-loop-count : goal.invariant-loop-count
-invariant-loop-count l = Waiting l.links l.count l.level l.index
+abbrev pub invariant-loop-k : goal.invariant-loop-k
+invariant-loop-k l = (l.k ≡ get_or l.index l.s 0) × Waiting l.links l.level l.index
 
-abbrev pub decreases-loop-count : goal.decreases-loop-count
-decreases-loop-count l = l.count - get_or l.index l.s 0
+abbrev pub decreases-loop-k : goal.decreases-loop-k
+decreases-loop-k l = length l.links - l.k

@@ -1,12 +1,6 @@
 -- `links::links::link_send` meets its contract.
-use Rattle.links.proofs.LinkReads.{target_place, sends_few, send_is, send_adds, send_adds_none}
-use Rattle.links.specs.Listed.{ArrivalIs}
-use Rattle.reading.specs.declared.found.Found.{Found}
-use Rattle.reading.specs.Reads.{OfState}
-use Rattle.store.specs.Layout.{name_base}
-use mathlib.Core.Path.{subst}
-use Prim.Native.Nat.{◌+◌, ◌*◌}
-use native.Mathlib.Omega.{arith}
+use Rattle.std.proofs.Common.{arith}
+use Rattle.links.proofs.LinkReads.{send_is, target_place, sends_few, send_adds, send_adds_none}
 use Rattle.links.proofs.LinkWhole.{entry_low, place_low, entry_upto, entry_is_place}
 use Rattle.links.proofs.links.link_send.Goals as goal
 
@@ -28,18 +22,16 @@ overflow_add-name c = let h = entry_low _ c.requires.0 _ _ c.requires.1 in let g
 pub arrival-requires : goal.arrival-requires
 arrival-requires c = (c.requires.0, target_place _ _ _ c.requires.1 _ c.requires.2 c.target-t.ensures)
 
-pub returns-in_default : goal.returns-in_default
-returns-in_default c = send_adds_none _ _ _ c.requires.1 _ _ c.requires.2 c.target-t.ensures c.sends_before.ensures _ _ (subst (λ (r : Found). OfState c.args.store.now (ArrivalIs c.target-t.result (c.args.p * name_base + c.sends_before.result) r)) c.in_default.is c.arrival.ensures)
+pub delivery-requires : goal.delivery-requires
+delivery-requires c = let p = c.requires in place_low _ p.0 _ (target_place _ _ _ p.1 _ p.2 c.target-t.ensures)
 
-pub deliveries_line-mail-requires : goal.deliveries_line-mail-requires
-deliveries_line-mail-requires c = let p = c.requires in place_low _ p.0 _ (target_place _ _ _ p.1 _ p.2 c.target-t.ensures)
+pub entry-requires : goal.entry-requires
+entry-requires c = (entry_low _ c.requires.0 _ _ c.requires.1).0
 
-pub entries_line-own-requires : goal.entries_line-own-requires
-entries_line-own-requires c = (entry_low _ c.requires.0 _ _ c.requires.1).0
-
-pub returns : goal.returns
-returns c =
+pub returns-in-Some : goal.returns-in-Some
+returns-in-Some c =
     let p = c.requires in
-    send_adds _ _ _ p.1 _ _ p.2 c.target-t.ensures c.sends_before.ensures _ _ _ _ _ _ c.deliveries_line-mail.ensures c.entries_line-own.ensures
-    (subst (λ (r : Found). OfState c.args.store.now (ArrivalIs c.target-t.result (c.args.p * name_base + c.sends_before.result) r)) c.in-At.is c.arrival.ensures)
-    p.3 c.put_link.ensures
+    send_adds _ _ _ p.1 _ _ p.2 c.target-t.ensures c.sends_before.ensures _ _ _ _ _ c.delivery.ensures c.entry.ensures c.in-Some.ensures c.push.ensures.items
+
+pub returns-in_default : goal.returns-in_default
+returns-in_default c = send_adds_none _ _ _ c.requires.1 _ _ c.requires.2 c.target-t.ensures c.sends_before.ensures _ c.in_default.ensures

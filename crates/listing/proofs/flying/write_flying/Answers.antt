@@ -16,4 +16,4 @@ pub overflow_cast-s : goal.overflow_cast-s
 overflow_cast-s c = omega (arith, place_low _ c.requires.0 _ c.requires.1)
 
 pub returns : goal.returns
-returns c = name_so _ _ _ _ c.in_flight.ensures _ _ _ _ _ _ (not_false _ (ap not c.if-not-in_flight.false)) c.write_gap-next.ensures c.write_name.ensures refl
+returns c = name_so _ _ _ _ c.in_flight.ensures _ _ _ _ _ _ _ (not_false _ (ap not c.if-not-in_flight.false)) c.from.ensures c.write_gap-next.ensures c.write_name.ensures refl

@@ -7,13 +7,13 @@ use Rattle.listing.proofs.FlightLaws.{senders_none, senders_more, senders_all}
 use Rattle.listing.proofs.flying.write_senders.Goals as goal
 
 pub loop-s-init : goal.loop-s-init
-loop-s-init c = (search rules, search rules, senders_none _ _ _ _ c.past.ensures (search rules))
+loop-s-init c = (search rules, senders_none _ _ _ _ c.past.ensures (search rules))
 
 pub write_sender-reached-requires : goal.write_sender-reached-requires
-write_sender-reached-requires c = (search rules, end_place _ _ _ c.places-end.ensures (search rules))
+write_sender-reached-requires c = (search rules, end_place _ _ _ c.places-s-end.ensures (search rules))
 
 pub loop-s-preserved : goal.loop-s-preserved
-loop-s-preserved c = (search rules, search rules, senders_more _ _ _ _ _ _ _ _ c.loop-s.invariant.2 c.write_sender-reached.ensures)
+loop-s-preserved c = (search rules, senders_more _ _ _ _ _ _ _ _ c.loop-s.invariant.1 c.write_sender-reached.ensures)
 
 pub returns : goal.returns
-returns c = senders_all _ _ _ _ _ _ _ _ c.places-end.ensures (omega arith) c.past.ensures refl (search rules) c.loop-s.invariant.2
+returns c = senders_all _ _ _ _ _ _ _ _ c.places-s-end.ensures (omega arith) c.past.ensures refl (search rules) c.loop-s.invariant.1

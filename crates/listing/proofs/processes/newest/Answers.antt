@@ -10,4 +10,4 @@ pub kind-requires : goal.kind-requires
 kind-requires c = (search rules, search newest_entry)
 
 pub returns : goal.returns
-returns c = newest_is _ _ _ _ _ c.entry_count-count.ensures c.if-count-eq0.false c.kind.ensures c.named.ensures
+returns c = newest_is _ _ _ _ c.entry_count-count.ensures c.if-count-eq0.false c.kind.ensures

@@ -6,22 +6,23 @@ use Rattle.listing.proofs.ProcessLaws.{counted_none, counted_more, counted_same,
 use Rattle.listing.proofs.processes.pool_count.Goals as goal
 use Rattle.listing.proofs.processes.pool_count.Goals.{then-in_pool, else-in_pool}
 
-pub overflow_cast-end : goal.overflow_cast-end
-overflow_cast-end c = omega (arith, places_few _ c.requires _ c.places-end.ensures)
+pub overflow_cast-p-end : goal.overflow_cast-p-end
+overflow_cast-p-end c = omega (arith, places_few _ c.requires _ c.places-p-end.ensures)
 
 pub loop-p-init : goal.loop-p-init
-loop-p-init c = (search rules, search rules, places_few _ c.requires _ c.places-end.ensures, counted_none _)
+loop-p-init c = (search rules, counted_none _)
+
+pub overflow_add-count : goal.overflow_add-count
+overflow_add-count c = omega (arith, places_few _ c.requires _ c.places-p-end.ensures)
 
 pub loop-p-preserved : goal.loop-p-preserved
 loop-p-preserved c = (
-  search rules,
   elim c.if-in_pool.branch [ then-in_pool w ↦ omega arith | else-in_pool w ↦ omega arith ],
-  search rules,
   elim c.if-in_pool.branch [
-    | then-in_pool w ↦ counted_more _ _ _ _ _ w.count-is c.loop-p.invariant.3 c.in_pool.ensures w.if-in_pool.true
-    | else-in_pool w ↦ counted_same _ _ _ _ _ w.count-is c.loop-p.invariant.3 c.in_pool.ensures w.if-in_pool.false
+    | then-in_pool w ↦ counted_more _ _ _ _ _ w.count-is c.loop-p.invariant.1 c.in_pool.ensures w.if-in_pool.true
+    | else-in_pool w ↦ counted_same _ _ _ _ _ w.count-is c.loop-p.invariant.1 c.in_pool.ensures w.if-in_pool.false
   ],
 )
 
 pub returns : goal.returns
-returns c = counted_all _ _ _ _ c.places-end.ensures (omega arith) c.loop-p.invariant.3
+returns c = counted_all _ _ _ _ c.places-p-end.ensures (omega arith) c.loop-p.invariant.1

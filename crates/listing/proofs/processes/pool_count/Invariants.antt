@@ -1,6 +1,6 @@
 -- `pool_count` meets its contract.
 use mathlib.Core.Path.{◌≡◌}
-use Prim.Native.Nat.{◌≤◌, ◌-◌}
+use Prim.Native.Nat.{◌≤◌}
 use lib.ListN.{length}
 use Rattle.lists.specs.Lists.{keep, up_to}
 use Rattle.rules.specs.State.{in_pool}
@@ -8,7 +8,4 @@ use Rattle.reading.specs.Reads.{OfState}
 use Rattle.listing.proofs.processes.pool_count.Given as goal
 
 abbrev pub invariant-loop-p : goal.invariant-loop-p
-invariant-loop-p l = (l.p ≤ l.end) × (l.count ≤ l.p) × (l.end ≤ 16) × OfState l.store (λ s. l.count ≡ length (keep (in_pool s) (up_to l.p)))
-
-abbrev pub decreases-loop-p : goal.decreases-loop-p
-decreases-loop-p l = l.end - l.p
+invariant-loop-p l = (l.count ≤ l.p) × OfState l.store (λ s. l.count ≡ length (keep (in_pool s) (up_to l.p)))

@@ -1,6 +1,5 @@
 -- `write_places` meets its contract.
 use mathlib.Core.Path.{◌≡◌}
-use Prim.Native.Nat.{◌≤◌, ◌-◌}
 use lib.ListN.{length}
 use Rattle.text.specs.Written.{Wrote}
 use Rattle.reading.specs.Reads.{OfState}
@@ -8,7 +7,4 @@ use Rattle.listing.specs.Listed.{places_text}
 use Rattle.listing.proofs.processes.write_places.Given as goal
 
 abbrev pub invariant-loop-p : goal.invariant-loop-p
-invariant-loop-p l = (l.p ≤ l.end) × (length l.out ≡ length l.initial.out) × OfState l.store (λ s. Wrote (places_text s l.p) l.at l.initial.out l.out l.to)
-
-abbrev pub decreases-loop-p : goal.decreases-loop-p
-decreases-loop-p l = l.end - l.p
+invariant-loop-p l = (length l.out ≡ length l.initial.out) × OfState l.store (λ s. Wrote (places_text s l.p) l.at l.initial.out l.out l.to)

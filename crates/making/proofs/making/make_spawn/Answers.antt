@@ -3,7 +3,7 @@ use Rattle.making.proofs.Made.{spawn_else, spawn_full, spawn_done, grow_ready, p
 use Rattle.making.proofs.making.make_spawn.Goals as goal
 
 pub returns-in_default : goal.returns-in_default
-returns-in_default c = search (spawn_else, c.in_default.not-Row)
+returns-in_default c = search (spawn_else, c.in_default.not-Ok)
 
 pub slice_bounds-bear-end : goal.slice_bounds-bear-end
 slice_bounds-bear-end c = search part_length

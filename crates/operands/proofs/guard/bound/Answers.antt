@@ -1,16 +1,12 @@
 -- `bound` meets its contract.
 use Rattle.operands.proofs.RowGuard.{looked_past, looked_none, looked_value}
-use native.Mathlib.Omega.{arith}
 use Rattle.operands.proofs.guard.bound.Goals as goal
 
-pub returns-then-env-x : goal.returns-then-env-x
-returns-then-env-x c = search looked_past
+pub returns-in_err-after : goal.returns-in_err-after
+returns-in_err-after c = search (looked_past, c.in_err-after.ensures.lookup.3)
 
-pub overflow_cast-e : goal.overflow_cast-e
-overflow_cast-e c = omega (arith, c.type_inv.env c.args.x)
-
-pub returns-then-e-eq0 : goal.returns-then-e-eq0
-returns-then-e-eq0 c = search looked_none
+pub returns-in_err-place : goal.returns-in_err-place
+returns-in_err-place c = search (looked_none, c.in_ok-after.ensures.lookup.3.1 0, c.in_err-place.ensures)
 
 pub returns : goal.returns
-returns c = search looked_value
+returns c = search (looked_value, c.in_ok-after.ensures.lookup.3.1 0, c.in_ok-place.ensures)

@@ -1,15 +1,12 @@
 -- `elsewhere` meets its contract.
-use Rattle.operands.proofs.RowOperand.{there_short, there_here, there_there, there_stuck}
+use Rattle.operands.proofs.RowOperand.{there_stuck, there_here, there_same}
 use Rattle.operands.proofs.operand.elsewhere.Goals as goal
 
-pub returns-in-Short : goal.returns-in-Short
-returns-in-Short c = search there_short
+pub returns-in_err-other : goal.returns-in_err-other
+returns-in_err-other c = search (there_stuck, c.in_err-other.ensures)
 
 pub returns-in-Here : goal.returns-in-Here
-returns-in-Here c = search there_here
+returns-in-Here c = search (there_here, c.in_ok-other.ensures)
 
-pub returns-in-There : goal.returns-in-There
-returns-in-There c = search there_there
-
-pub returns-in-Stuck : goal.returns-in-Stuck
-returns-in-Stuck c = search there_stuck
+pub returns-in_default : goal.returns-in_default
+returns-in_default c = search (there_same, c.in_ok-other.ensures)

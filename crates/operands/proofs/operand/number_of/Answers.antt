@@ -2,8 +2,8 @@
 use Rattle.operands.proofs.RowOperand.{number_value, number_stuck}
 use Rattle.operands.proofs.operand.number_of.Goals as goal
 
-pub returns-in-Value : goal.returns-in-Value
-returns-in-Value c = search number_value
+pub returns-in_err-z : goal.returns-in_err-z
+returns-in_err-z c = search (number_stuck, c.in_err-z.was)
 
-pub returns-in-Stuck : goal.returns-in-Stuck
-returns-in-Stuck c = search number_stuck
+pub returns : goal.returns
+returns c = search (number_value, c.in_ok-z.was)

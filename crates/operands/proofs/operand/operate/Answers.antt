@@ -2,17 +2,17 @@
 use Rattle.operands.proofs.RowOperand.{operate_stuck, operate_stuck_second, operates_equal, operates_unequal, operates_integers}
 use Rattle.operands.proofs.operand.operate.Goals as goal
 
-pub returns-then-is_stuck : goal.returns-then-is_stuck
-returns-then-is_stuck c = search operate_stuck
+pub returns-in_err-first : goal.returns-in_err-first
+returns-in_err-first c = search (operate_stuck, c.in_err-first.was)
 
-pub returns-then-is_stuck-2 : goal.returns-then-is_stuck-2
-returns-then-is_stuck-2 c = search operate_stuck_second
+pub returns-in_err-second : goal.returns-in_err-second
+returns-in_err-second c = search (operate_stuck_second, c.in_err-second.was)
 
-pub returns-then-op-eq-EQUAL : goal.returns-then-op-eq-EQUAL
-returns-then-op-eq-EQUAL c = search operates_equal
+pub returns-in-5 : goal.returns-in-5
+returns-in-5 c = search (operates_equal, c.in_ok-first.was, c.in_ok-second.was)
 
-pub returns-then-op-eq-UNEQUAL : goal.returns-then-op-eq-UNEQUAL
-returns-then-op-eq-UNEQUAL c = search operates_unequal
+pub returns-in-6 : goal.returns-in-6
+returns-in-6 c = search (operates_unequal, c.in_ok-first.was, c.in_ok-second.was)
 
-pub returns : goal.returns
-returns c = search operates_integers
+pub returns-in_default : goal.returns-in_default
+returns-in_default c = search (operates_integers, c.in_ok-first.was, c.in_ok-second.was)

@@ -1,5 +1,5 @@
 -- `same_long` meets its contract.
-use Rattle.operands.proofs.RowOperand.{long_past, long_here_same, long_there_same, long_no_short, long_no_stuck}
+use Rattle.operands.proofs.RowOperand.{long_past, long_here_same, long_there_same, long_no_short}
 use Rattle.operands.proofs.operand.same_long.Goals as goal
 
 pub returns-then-a-i : goal.returns-then-a-i
@@ -13,6 +13,3 @@ returns-in-There c = search long_there_same
 
 pub returns-in-Short : goal.returns-in-Short
 returns-in-Short c = search long_no_short
-
-pub returns-in-Stuck : goal.returns-in-Stuck
-returns-in-Stuck c = search long_no_stuck

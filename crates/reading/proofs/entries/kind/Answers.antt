@@ -1,5 +1,6 @@
 -- `kind` meets its contract.
 use Rattle.reading.proofs.StateReads.{entry_is_place, entry_index, entry_low, head_of, kind_out}
+use Rattle.reading.proofs.KindReads.{kind_read}
 use native.Mathlib.Omega.{arith}
 use Rattle.reading.proofs.entries.kind.Goals as goal
 
@@ -13,4 +14,4 @@ pub bounds-slot-0 : goal.bounds-slot-0
 bounds-slot-0 c = omega (arith, head_of _ c.requires.0 _ _ _ c.slot.ensures)
 
 pub returns : goal.returns
-returns c = kind_out _ _ _ _ c.slot.ensures
+returns c = kind_read _ _ _ _ _ (kind_out _ _ _ _ c.slot.ensures) c.kind_of.ensures

@@ -3,11 +3,8 @@ use Rattle.rules.specs.Flight.{sends}
 use Rattle.reading.specs.Reads.{OfState, oldest}
 use Rattle.rules.specs.State.{history_at}
 use mathlib.Core.Path.{◌≡◌}
-use Prim.Native.Nat.{◌+◌, ◌≤◌, ◌-◌}
+use Prim.Native.Nat.{◌+◌}
 use Rattle.reading.proofs.mail.find_send.Given as goal
 
 abbrev pub invariant-loop-i : goal.invariant-loop-i
-invariant-loop-i l = (l.i ≤ l.end) × OfState l.store (λ s. l.count ≡ l.left + sends (oldest l.i (history_at s l.p)))
-
-abbrev pub decreases-loop-i : goal.decreases-loop-i
-decreases-loop-i l = l.end - l.i
+invariant-loop-i l = OfState l.store (λ s. l.count ≡ l.left + sends (oldest l.i (history_at s l.p)))

@@ -10,7 +10,7 @@ pub target-requires : goal.target-requires
 target-requires c = (c.requires.0, (here_send _ _ _ _ c.requires.1 c.send_at.ensures c.if-send_at-eq0.false))
 
 pub returns-then-target-q : goal.returns-then-target-q
-returns-then-target-q c = flies_other _ _ _ _ _ (here_send _ _ _ _ c.requires.1 c.send_at.ensures c.if-send_at-eq0.false) c.target.ensures c.if-target-q.true
+returns-then-target-q c = flies_this _ _ _ _ _ (here_send _ _ _ _ c.requires.1 c.send_at.ensures c.if-send_at-eq0.false) c.target.ensures c.if-target-q.true _ c.requires.3 _ c.has_come.ensures
 
-pub returns : goal.returns
-returns c = flies_this _ _ _ _ _ (here_send _ _ _ _ c.requires.1 c.send_at.ensures c.if-send_at-eq0.false) c.target.ensures c.if-target-q.false _ c.requires.3 _ c.has_come.ensures
+pub returns-else-target-q : goal.returns-else-target-q
+returns-else-target-q c = flies_other _ _ _ _ _ (here_send _ _ _ _ c.requires.1 c.send_at.ensures c.if-send_at-eq0.false) c.target.ensures c.if-target-q.false

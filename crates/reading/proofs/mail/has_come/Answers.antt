@@ -1,9 +1,10 @@
 -- `has_come` meets its contract.
-use Rattle.reading.proofs.MailReads.{come_queue, come_taken}
+use mathlib.Core.Path.{◌∙◌}
+use Rattle.reading.proofs.MailReads.{contains_name, come_queue, come_taken}
 use Rattle.reading.proofs.mail.has_come.Goals as goal
 
-pub returns-then-among : goal.returns-then-among
-returns-then-among c = come_queue _ _ _ _ _ c.queue.ensures c.among.ensures c.if-among.true
+pub returns-then-contains : goal.returns-then-contains
+returns-then-contains c = come_queue _ _ _ _ _ c.queue.ensures (c.contains.ensures.value ∙ contains_name _ _) c.if-contains.true
 
-pub returns : goal.returns
-returns c = come_taken _ _ _ _ _ c.queue.ensures c.among.ensures c.if-among.false _ c.received.ensures
+pub returns-else-contains : goal.returns-else-contains
+returns-else-contains c = come_taken _ _ _ _ _ c.queue.ensures (c.contains.ensures.value ∙ contains_name _ _) c.if-contains.false _ c.received.ensures

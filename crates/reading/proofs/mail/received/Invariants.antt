@@ -5,12 +5,8 @@ use Rattle.reading.specs.Reads.{OfState, oldest}
 use Rattle.rules.specs.State.{history_at}
 use mathlib.Core.Bool.{false}
 use mathlib.Core.Path.{◌≡◌}
-use Prim.Native.Nat.{◌≤◌, ◌-◌}
 use Rattle.reading.proofs.MailReads.{by_name}
 use Rattle.reading.proofs.mail.received.Given as goal
 
 abbrev pub invariant-loop-i : goal.invariant-loop-i
-invariant-loop-i l = (l.i ≤ l.end) × OfState l.store (λ s. any (by_name l.name) (taken (oldest l.i (history_at s l.t))) ≡ false)
-
-abbrev pub decreases-loop-i : goal.decreases-loop-i
-decreases-loop-i l = l.end - l.i
+invariant-loop-i l = OfState l.store (λ s. any (by_name l.name) (taken (oldest l.i (history_at s l.t))) ≡ false)

@@ -1,9 +1,11 @@
 -- `send_at` meets its contract.
+use mathlib.Core.Path.{refl}
+use Rattle.reading.proofs.KindReads.{other_kind}
 use Rattle.reading.proofs.MailReads.{send_one, send_other}
 use Rattle.reading.proofs.mail.send_at.Goals as goal
 
-pub returns-then-kind-eq-SEND : goal.returns-then-kind-eq-SEND
-returns-then-kind-eq-SEND c = send_one _ _ _ _ c.kind.ensures c.if-kind-eq-SEND.true
+pub returns-in-Send : goal.returns-in-Send
+returns-in-Send c = send_one _ _ _ _ c.in-Send.ensures refl
 
-pub returns : goal.returns
-returns c = send_other _ _ _ _ c.kind.ensures c.if-kind-eq-SEND.false
+pub returns-in_default : goal.returns-in_default
+returns-in_default c = send_other _ _ _ _ c.kind.ensures (other_kind c.in_default.not-Send)

@@ -1,40 +1,36 @@
 -- `slot` meets its contract.
+use Prim.Native.Nat.{◌+◌, ◌*◌}
+use mathlib.Core.Path.{◌≡◌, ◌∙◌, ap}
 use native.Mathlib.Omega.{arith}
-use Rattle.reading.proofs.Holding.{head_in, good_read, place_read, index_read, slot_in, slot_low, slot_is}
+use Rattle.rules.specs.State.{Sizes}
+use Rattle.store.specs.Layout.{blocks_from, slot_size, block_size}
+use Rattle.reading.proofs.Holding.{head_in, good_read, place_read, index_read, sizes_read, slot_in, slot_low, slot_is}
 use Rattle.reading.proofs.slots.slot.Goals as goal
+use Rattle.reading.proofs.slots.slot.Goals.{After-slot_start-at}
 
-pub bounds-store-0 : goal.bounds-store-0
-bounds-store-0 c = omega (arith, head_in _ c.requires.0)
+-- where the slot stands, by the sizes that the store says
+starts : (c : After-slot_start-at) → c.slot_start-at.result ≡ blocks_from + c.args.p * block_size (sizes_read c.args.store.now) + c.args.i * slot_size (sizes_read c.args.store.now)
+starts c = c.slot_start-at.ensures ∙ ap (λ (y : Sizes). blocks_from + c.args.p * block_size y + c.args.i * slot_size y) c.at_head-sizes.ensures
 
-pub overflow_cast-places : goal.overflow_cast-places
-overflow_cast-places c = omega (arith, c.type_inv.store 0)
+long : (c : After-slot_start-at) → c.at_head-sizes.result.slot ≡ slot_size (sizes_read c.args.store.now)
+long c = c.at_head-sizes.result.slot_is ∙ ap slot_size c.at_head-sizes.ensures
 
-pub bounds-store-1 : goal.bounds-store-1
-bounds-store-1 c = omega (arith, head_in _ c.requires.0)
-
-pub overflow_cast-entries : goal.overflow_cast-entries
-overflow_cast-entries c = omega (arith, c.type_inv.store 1)
-
-pub bounds-store-2 : goal.bounds-store-2
-bounds-store-2 c = omega (arith, head_in _ c.requires.0)
-
-pub overflow_cast-words : goal.overflow_cast-words
-overflow_cast-words c = omega (arith, c.type_inv.store 2)
+pub at_head-sizes-requires : goal.at_head-sizes-requires
+at_head-sizes-requires c = (omega (arith, head_in _ c.requires.0), good_read _ c.requires.0)
 
 pub slot_start-at-requires : goal.slot_start-at-requires
-slot_start-at-requires c = (good_read _ c.requires.0, place_read _ c.requires.0 c.requires.1, index_read _ c.requires.0 c.requires.2)
-
-pub slot_size-requires : goal.slot_size-requires
-slot_size-requires c = good_read _ c.requires.0
+slot_start-at-requires c =
+    let e = c.at_head-sizes.ensures in
+    (omega (arith, place_read _ c.requires.0 c.requires.1, ap (λ (y : Sizes). y.places) e), omega (arith, index_read _ c.requires.0 c.requires.2, ap (λ (y : Sizes). y.entries) e))
 
 pub overflow_add-result : goal.overflow_add-result
-overflow_add-result c = omega (arith, slot_low _ c.requires.0 _ _ _ _ c.requires.1 c.requires.2 c.slot_start-at.ensures c.slot_size.ensures)
+overflow_add-result c = let at = (goal.at.overflow_add-result c).After-slot_start-at in omega (arith, slot_low _ c.requires.0 _ _ _ _ c.requires.1 c.requires.2 (starts at) (long at))
 
 pub offset_bounds-store-at : goal.offset_bounds-store-at
-offset_bounds-store-at c = omega (arith, slot_low _ c.requires.0 _ _ _ _ c.requires.1 c.requires.2 c.slot_start-at.ensures c.slot_size.ensures)
+offset_bounds-store-at c = let at = (goal.at.offset_bounds-store-at c).After-slot_start-at in omega (arith, slot_low _ c.requires.0 _ _ _ _ c.requires.1 c.requires.2 (starts at) (long at))
 
 pub slice_bounds-result-end : goal.slice_bounds-result-end
-slice_bounds-result-end c = omega (arith, slot_in _ c.requires.0 _ _ _ _ c.requires.1 c.requires.2 c.slot_start-at.ensures c.slot_size.ensures)
+slice_bounds-result-end c = let at = (goal.at.slice_bounds-result-end c).After-slot_start-at in omega (arith, slot_in _ c.requires.0 _ _ _ _ c.requires.1 c.requires.2 (starts at) (long at))
 
 pub returns : goal.returns
-returns c = slot_is _ c.requires.0 _ _ _ _ c.requires.1 c.requires.2 c.slot_start-at.ensures c.slot_size.ensures
+returns c = let at = (goal.at.returns c).After-slot_start-at in slot_is _ c.requires.0 _ _ _ _ c.requires.1 c.requires.2 (starts at) (long at)

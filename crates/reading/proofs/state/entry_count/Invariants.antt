@@ -2,11 +2,8 @@
 use Rattle.reading.specs.Reads.{OfState}
 use Rattle.rules.specs.State.{history_at}
 use lib.ListN.{length}
-use Prim.Native.Nat.{◌-◌, ◌≤◌}
+use Prim.Native.Nat.{◌≤◌}
 use Rattle.reading.proofs.state.entry_count.Given as goal
 
 abbrev pub invariant-loop-i : goal.invariant-loop-i
-invariant-loop-i l = (l.i ≤ l.most) × OfState l.store (λ s. l.i ≤ length (history_at s l.p))
-
-abbrev pub decreases-loop-i : goal.decreases-loop-i
-decreases-loop-i l = l.most - l.i
+invariant-loop-i l = OfState l.store (λ s. l.i ≤ length (history_at s l.p))

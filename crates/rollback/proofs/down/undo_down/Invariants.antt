@@ -9,7 +9,7 @@ use Rattle.rollback.proofs.down.undo_down.Given as goal
 
 abbrev pub invariant-loop-x : goal.invariant-loop-x
 invariant-loop-x l =
-    (length l.level ≡ line_count) × (length l.store ≡ length l.initial.store) × Undoing l.initial.store l.links l.count l.cut l.levels l.store l.level × Waiting l.links l.count l.level l.index
+    (length l.level ≡ line_count) × (length l.store ≡ length l.initial.store) × Undoing l.initial.store l.links l.cut l.levels l.store l.level × Waiting l.links l.level l.index
 
 abbrev pub decreases-loop-x : goal.decreases-loop-x
 decreases-loop-x l = sum_of l.level

@@ -4,8 +4,4 @@ use Rattle.rollback.proofs.RollbackCalls.{Unfound}
 use Rattle.rollback.proofs.rollback.newest_check.Given as goal
 
 abbrev pub invariant-loop-i : goal.invariant-loop-i
-invariant-loop-i l =
-    OfState l.store (Unfound l.p l.t l.i)
-
-abbrev pub decreases-loop-i : goal.decreases-loop-i
-decreases-loop-i l = l.i
+invariant-loop-i l = OfState l.store (Unfound l.p l.t l.i)

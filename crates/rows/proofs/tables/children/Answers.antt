@@ -2,11 +2,11 @@
 use Rattle.rows.proofs.TableLaws.{count_body, count_case, count_other}
 use Rattle.rows.proofs.tables.children.Goals as goal
 
-pub returns-then-kind-eq-BODY : goal.returns-then-kind-eq-BODY
-returns-then-kind-eq-BODY c = search count_body
+pub returns-in-Body : goal.returns-in-Body
+returns-in-Body c = count_body _ _ c.tag.ensures _ c.n-count.ensures c.in-Body.ensures
 
-pub returns-then-kind-eq-OF_CASE : goal.returns-then-kind-eq-OF_CASE
-returns-then-kind-eq-OF_CASE c = search count_case
+pub returns-in-OfCase : goal.returns-in-OfCase
+returns-in-OfCase c = count_case _ _ c.tag.ensures _ c.n-count.ensures c.in-OfCase.ensures
 
-pub returns : goal.returns
-returns c = search count_other
+pub returns-in_default : goal.returns-in_default
+returns-in_default c = count_other _ _ c.tag.ensures _ c.n-count.ensures _ c.below.ensures c.in_default.not-Body c.in_default.not-OfCase

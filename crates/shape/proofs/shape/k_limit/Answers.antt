@@ -5,5 +5,5 @@ use Rattle.shape.proofs.shape.k_limit.Goals as goal
 pub returns-then-tag-eq-PID : goal.returns-then-tag-eq-PID
 returns-then-tag-eq-PID c = search limit_pid
 
-pub returns : goal.returns
-returns c = search limit_other
+pub returns-else-tag-eq-PID : goal.returns-else-tag-eq-PID
+returns-else-tag-eq-PID c = search limit_other

@@ -23,9 +23,6 @@ loop-left-preserved-then-tag-eq-INTEGER c = search comes_integer
 pub returns-then-not-alike : goal.returns-then-not-alike
 returns-then-not-alike c = search alike_turns
 
-pub returns-then-row-left : goal.returns-then-row-left
-returns-then-row-left c = search alike_turns
-
 pub loop-left-preserved : goal.loop-left-preserved
 loop-left-preserved c = search comes_alike
 

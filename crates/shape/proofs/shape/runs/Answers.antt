@@ -2,17 +2,17 @@
 use Rattle.shape.proofs.SpotLaws.{runs_clause, runs_case, runs_receive, runs_body, runs_alike}
 use Rattle.shape.proofs.shape.runs.Goals as goal
 
-pub returns-then-kind-eq-OF_CLAUSE : goal.returns-then-kind-eq-OF_CLAUSE
-returns-then-kind-eq-OF_CLAUSE c = search runs_clause
+pub returns-in-OfClause : goal.returns-in-OfClause
+returns-in-OfClause c = search (runs_clause, c.in-OfClause.ensures)
 
-pub returns-then-kind-eq-OF_CASE : goal.returns-then-kind-eq-OF_CASE
-returns-then-kind-eq-OF_CASE c = search runs_case
+pub returns-in-OfCase : goal.returns-in-OfCase
+returns-in-OfCase c = search (runs_case, c.in-OfCase.ensures)
 
-pub returns-then-kind-eq-OF_RECEIVE : goal.returns-then-kind-eq-OF_RECEIVE
-returns-then-kind-eq-OF_RECEIVE c = search runs_receive
+pub returns-in-OfReceive : goal.returns-in-OfReceive
+returns-in-OfReceive c = search (runs_receive, c.in-OfReceive.ensures)
 
-pub returns-then-kind-eq-BODY : goal.returns-then-kind-eq-BODY
-returns-then-kind-eq-BODY c = search runs_body
+pub returns-in-Body : goal.returns-in-Body
+returns-in-Body c = search (runs_body, c.in-Body.ensures)
 
-pub returns : goal.returns
-returns c = search runs_alike
+pub returns-in-Alike : goal.returns-in-Alike
+returns-in-Alike c = search (runs_alike, c.in-Alike.ensures)

@@ -8,8 +8,8 @@ returns-then-tag-eq-CALL c = search guard_call
 pub returns-then-places-ne0 : goal.returns-then-places-ne0
 returns-then-places-ne0 c = search guard_control
 
-pub returns-then-tag-eq-PID : goal.returns-then-tag-eq-PID
-returns-then-tag-eq-PID c = search guard_pid
+pub returns-then-tag-ne-PID : goal.returns-then-tag-ne-PID
+returns-then-tag-ne-PID c = search guard_module
 
-pub returns : goal.returns
-returns c = search guard_module
+pub returns-else-tag-ne-PID : goal.returns-else-tag-ne-PID
+returns-else-tag-ne-PID c = search guard_pid

@@ -1,16 +1,15 @@
--- `slots::sound_sends::note_place` meets its contract.
+-- `note_place` meets its contract.
 use Prim.Native.Nat.{◌+◌, ◌≤◌}
 use mathlib.Core.Path.{◌≡◌}
 use lib.ListN.{length}
-use Rattle.lists.specs.Lists.{All}
-use Rattle.lists.proofs.Blocks.{chop}
-use Rattle.slots.specs.SoundTests.{ControlFits, Slots}
+use Rattle.slots.specs.SoundTests.{ControlFits}
+use Rattle.slots.specs.SendTests.{entry_slots}
+use Rattle.slots.proofs.Chunks.{Going}
 use Rattle.slots.proofs.SendTest.{Noting}
 use Rattle.slots.proofs.sound_sends.note_place.Given as goal
 
-abbrev pub invariant-loop-left : goal.invariant-loop-left
-invariant-loop-left l =
-    Slots 0 l.size l.left l.t × (length l.t ≤ length l.block) × All ControlFits (chop l.left l.size l.t) × (length l.targets ≡ length l.initial.targets) × (l.k + l.left ≤ l.at + l.initial.left) × Noting l.live l.size l.initial.left l.at l.block l.initial.targets l.left l.k l.t l.targets
-
-abbrev pub decreases-loop-left : goal.decreases-loop-left
-decreases-loop-left l = l.left
+abbrev pub invariant-loop-slot : goal.invariant-loop-slot
+invariant-loop-slot l =
+    let sizes = l.fn.sizes in
+    (length l.targets ≡ length l.initial.targets)
+    × Going sizes.slot ControlFits (λ slots. (l.k + length slots ≤ l.at + sizes.entries) × Noting l.live (entry_slots sizes.slot sizes.entries l.block) l.at l.initial.targets l.k l.targets slots) l.slot-iterator

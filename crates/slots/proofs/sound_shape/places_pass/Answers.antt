@@ -1,61 +1,21 @@
 -- `places_pass` meets its contract.
-use mathlib.Core.Bool.{not}
-use mathlib.Core.Path.{ap}
-use Prim.Native.Nat.{◌≤◌}
-use mathlib.Core.Path.{refl, sym}
-use native.Mathlib.Omega.{arith}
-use lib.ListN.{length}
-use lib.Seq.{length-take-le}
-use Rattle.slots.specs.SoundTests.{ControlBlock, place_passes}
-use Rattle.slots.proofs.SoundTestWalk.{first_in, behind_short, others_lent, each_first, each_next}
-use Rattle.slots.proofs.SoundTestRun.{tests_yes, tests_no, tests_done}
+use mathlib.Core.Path.{refl, sym, ◌∙◌}
+use borrow.Author.Rules.{rules}
+use Rattle.slots.proofs.Chunks.{going_start, going_first, going_next, going_out, going_done}
+use Rattle.slots.proofs.SoundTestRun.{every_yes, every_no, every_done}
 use Rattle.slots.proofs.sound_shape.places_pass.Goals as goal
-use Rattle.slots.proofs.sound_shape.places_pass.Goals.{In-loop-left}
 
--- in a turn: a block is left, and it lies within t
-fits : (c : In-loop-left) → c.args.sizes.block ≤ length c.loop-left.t.now
-fits c = first_in c.loop-left.left c.args.sizes.block (length c.loop-left.t.now) c.loop-left.invariant.0 c.loop-left-test.true
-
-pub loop-left-init : goal.loop-left-init
-loop-left-init c = (c.requires.0, omega arith, c.requires.1, refl)
-
-pub slice_bounds-place_passes-end : goal.slice_bounds-place_passes-end
-slice_bounds-place_passes-end c = sym (length-take-le _ _ (fits (goal.at.slice_bounds-place_passes-end c).In-loop-left))
+pub loop-block-init : goal.loop-block-init
+loop-block-init c = going_start c.args.sizes.block _ _ c.args.sizes.places c.args.blocks.now _ (search rules) (search rules) (search rules) c.requires.0 c.requires.1 refl
 
 pub place_passes-requires : goal.place_passes-requires
-place_passes-requires c =
-    let a = c.args in
-    let l = c.loop-left in
-    let x = each_first (ControlBlock a.sizes.slot a.sizes.entries) l.left a.sizes.block l.t.now l.invariant.2 c.loop-left-test.true in
-    x
+place_passes-requires c = going_first _ _ _ c.loop-block.block-iterator c.next.new.self c.loop-block.invariant c.in-Some.block c.in-Some.ensures.steps
 
 pub returns-then-not-place_passes : goal.returns-then-not-place_passes
-returns-then-not-place_passes c =
-    let a = c.args in
-    let l = c.loop-left in
-    tests_no (place_passes a.sizes.slot a.sizes.entries a.places a.arities.now) _ a.sizes.block l.left l.t.now l.invariant.3 _ c.loop-left-test.true c.place_passes.ensures (ap not c.if-not-place_passes.true)
+returns-then-not-place_passes c = going_out _ _ _ c.loop-block.block-iterator c.next.new.self c.loop-block.invariant c.in-Some.block c.in-Some.ensures.steps _ (λ others e. sym (e ∙ every_no _ _ others _ c.place_passes.ensures c.if-not-place_passes.true))
 
-pub offset_bounds-t-len : goal.offset_bounds-t-len
-offset_bounds-t-len c = omega (arith, fits (goal.at.offset_bounds-t-len c).In-loop-left)
-
-pub slice_bounds-t-count : goal.slice_bounds-t-count
-slice_bounds-t-count c = omega (arith, fits (goal.at.slice_bounds-t-count c).In-loop-left)
-
-pub slice_bounds-t-start : goal.slice_bounds-t-start
-slice_bounds-t-start c = omega (arith, fits (goal.at.slice_bounds-t-start c).In-loop-left)
-
-pub slice_bounds-t-end : goal.slice_bounds-t-end
-slice_bounds-t-end c = omega (arith, fits (goal.at.slice_bounds-t-end c).In-loop-left)
-
-pub loop-left-preserved : goal.loop-left-preserved
-loop-left-preserved c =
-    let a = c.args in
-    let l = c.loop-left in
-    let some = c.loop-left-test.true in
-    (others_lent l.left a.sizes.block l.t.now l.invariant.0 some, (let s = behind_short a.sizes.block l.t.now in omega (arith, l.invariant.1)), each_next (ControlBlock a.sizes.slot a.sizes.entries) l.left a.sizes.block l.t.now l.invariant.2 some, tests_yes (place_passes a.sizes.slot a.sizes.entries a.places a.arities.now) _ a.sizes.block l.left l.t.now l.invariant.3 _ some c.place_passes.ensures (ap not c.if-not-place_passes.false))
+pub loop-block-preserved : goal.loop-block-preserved
+loop-block-preserved c = going_next _ _ _ c.loop-block.block-iterator c.next.new.self c.loop-block.invariant c.in-Some.block c.in-Some.ensures.steps _ (λ others e. e ∙ every_yes _ _ others _ c.place_passes.ensures c.if-not-place_passes.false)
 
 pub returns : goal.returns
-returns c =
-    let a = c.args in
-    let l = c.loop-left in
-    tests_done (place_passes a.sizes.slot a.sizes.entries a.places a.arities.now) _ a.sizes.block l.left l.t.now l.invariant.3 c.loop-left-test.false
+returns c = sym (going_done _ _ _ c.loop-block.block-iterator c.next.new.self c.loop-block.invariant c.in-None.ensures.steps ∙ every_done _)

@@ -1,66 +1,61 @@
 -- `messages` meets its contract.
-use mathlib.Core.Bool.{not}
-use mathlib.Core.Path.{ap}
-use Prim.Native.Nat.{◌≤◌}
-use mathlib.Core.Path.{refl, sym}
+use Prim.Native.Nat.{ℕ, ◌<◌}
+use mathlib.Core.Path.{◌≡◌, refl, sym, ◌∙◌, ap}
 use native.Mathlib.Omega.{arith}
-use lib.ListN.{length}
-use lib.Seq.{length-take-le}
 use borrow.Author.Rules.{rules}
-use Rattle.soundness.specs.MessageTests.{TakenBlock}
-use Rattle.slots.proofs.SoundTestWalk.{first_in, behind_short, others_lent, each_first, each_next}
+use Rattle.std.specs.Iterator.Adapters.{enumerate_source, enumerate_count}
+use Rattle.lists.proofs.Blocks.{chop, length_chop}
+use Rattle.store.proofs.SoundStates.{sizes_in_lem}
+use Rattle.slots.proofs.Chunks.{going_start, going_first, going_next, going_out, going_done}
+use Rattle.soundness.specs.MessageTests.{arrive_from}
 use Rattle.soundness.proofs.MessageTest.{from_yes, from_no, from_done}
 use Rattle.soundness.proofs.messages.messages.Goals as goal
-use Rattle.soundness.proofs.messages.messages.Goals.{In-loop-left}
+use Rattle.soundness.proofs.messages.messages.Goals.{In-Some}
 
--- in a turn: a block is left, and it lies within t
-fits : (c : In-loop-left) → c.args.sizes.block ≤ length c.loop-left.t.now
-fits c = first_in c.loop-left.left c.args.sizes.block (length c.loop-left.t.now) c.loop-left.invariant.0 c.loop-left-test.true
+-- in a turn: the place is one of the store's
+place_in : (c : In-Some) → c.in-Some.place < 16
+place_in c =
+    let l = c.loop-place in
+    let s = c.in-Some.ensures.steps in
+    going_out _ _ _ (enumerate_source l.place-iterator) (enumerate_source c.next.new.self) l.invariant.1 c.in-Some.block s.0 _ (λ others e. omega (arith, e.0, s.1, (sizes_in_lem _ c.args.sizes.good).places_high))
 
-pub loop-left-init : goal.loop-left-init
-loop-left-init c = (c.requires.0, omega arith, c.requires.1, refl, omega arith, refl)
+pub loop-place-init : goal.loop-place-init
+loop-place-init c =
+    let s = c.args.sizes in
+    let none : enumerate_count c.into_iter-place-iterator.result ≡ 0 = ap enumerate_count c.into_iter-place-iterator.ensures.into_iter_gives ∙ c.enumerate-place-items.ensures.count in (
+      refl,
+      going_start s.block _ _ s.places c.args.blocks.now (enumerate_source c.into_iter-place-iterator.result) (search rules) (search rules) (search rules) c.requires.0 c.requires.1
+          (omega (arith, none, length_chop s.places s.block c.args.blocks.now), ap (λ (p : ℕ). arrive_from s.words s.slot s.entries s.places s.entries p (chop s.places s.block c.args.blocks.now) c.args.targets.now) (sym none)),
+    )
 
-pub slice_bounds-arrive_place-end : goal.slice_bounds-arrive_place-end
-slice_bounds-arrive_place-end c = sym (length-take-le _ _ (fits (goal.at.slice_bounds-arrive_place-end c).In-loop-left))
+pub overflow_cast-place : goal.overflow_cast-place
+overflow_cast-place c = let h = place_in (goal.at.overflow_cast-place c).In-Some in record { fits = omega arith }
 
 pub arrive_place-requires : goal.arrive_place-requires
 arrive_place-requires c =
-    let s = c in
-    let l = c.loop-left in
-    let some = c.loop-left-test.true in
-    let x = each_first (TakenBlock s.args.sizes.words s.args.sizes.slot s.args.sizes.entries) l.left s.args.sizes.block l.t.now l.invariant.2 some in
-    (x, (let h = s.requires.2 in omega (arith, l.invariant.3)), (let h = s.requires.3 in omega (arith, l.invariant.4)), s.requires.3, s.requires.4)
+    let l = c.loop-place in (
+      going_first _ _ _ (enumerate_source l.place-iterator) (enumerate_source c.next.new.self) l.invariant.1 c.in-Some.block c.in-Some.ensures.steps.0,
+      omega (arith, c.requires.2, l.invariant.0),
+      place_in (goal.at.arrive_place-requires c).In-Some,
+    )
 
 pub returns-then-not-arrive_place : goal.returns-then-not-arrive_place
 returns-then-not-arrive_place c =
-    let a = c.args in
-    let l = c.loop-left in
-    from_no a.sizes.words a.sizes.slot a.sizes.entries a.sizes.places a.sizes.entries l.place a.sizes.block l.left l.t.now l.targets _ l.invariant.5 _ _ _ c.loop-left-test.true c.arrive_place.ensures (ap not c.if-not-arrive_place.true)
+    let l = c.loop-place in
+    let s = c.in-Some.ensures.steps in
+    going_out _ _ _ (enumerate_source l.place-iterator) (enumerate_source c.next.new.self) l.invariant.1 c.in-Some.block s.0 _
+    (λ others e. from_no _ _ _ _ _ _ _ others _ _ e.1 _ s.1 _ _ c.arrive_place.ensures _ c.if-not-arrive_place.true)
 
-pub offset_bounds-t-len : goal.offset_bounds-t-len
-offset_bounds-t-len c = omega (arith, fits (goal.at.offset_bounds-t-len c).In-loop-left)
-
-pub slice_bounds-t-count : goal.slice_bounds-t-count
-slice_bounds-t-count c = omega (arith, fits (goal.at.slice_bounds-t-count c).In-loop-left)
-
-pub slice_bounds-t-start : goal.slice_bounds-t-start
-slice_bounds-t-start c = omega (arith, fits (goal.at.slice_bounds-t-start c).In-loop-left)
-
-pub slice_bounds-t-end : goal.slice_bounds-t-end
-slice_bounds-t-end c = omega (arith, fits (goal.at.slice_bounds-t-end c).In-loop-left)
-
-pub overflow_add-place : goal.overflow_add-place
-overflow_add-place c = let s = c in let h = s.requires.3 in omega (arith, c.loop-left.invariant.4, c.loop-left-test.true)
-
-pub loop-left-preserved : goal.loop-left-preserved
-loop-left-preserved c =
-    let a = c.args in
-    let l = c.loop-left in
-    let some = c.loop-left-test.true in
-    (others_lent l.left a.sizes.block l.t.now l.invariant.0 some, (let s = behind_short a.sizes.block l.t.now in omega (arith, l.invariant.1)), each_next (TakenBlock a.sizes.words a.sizes.slot a.sizes.entries) l.left a.sizes.block l.t.now l.invariant.2 some, search rules, omega (arith, l.invariant.4, some), from_yes a.sizes.words a.sizes.slot a.sizes.entries a.sizes.places a.sizes.entries l.place a.sizes.block l.left l.t.now l.targets _ l.invariant.5 _ _ some c.arrive_place.ensures (ap not c.if-not-arrive_place.false))
+pub loop-place-preserved : goal.loop-place-preserved
+loop-place-preserved c =
+    let l = c.loop-place in
+    let s = c.in-Some.ensures.steps in (
+      search rules,
+      going_next _ _ _ (enumerate_source l.place-iterator) (enumerate_source c.next.new.self) l.invariant.1 c.in-Some.block s.0 _
+          (λ others e. (omega (arith, e.0, s.2), from_yes _ _ _ _ _ _ _ others _ _ e.1 _ s.1 _ _ c.arrive_place.ensures _ s.2 c.if-not-arrive_place.false)),
+    )
 
 pub returns : goal.returns
 returns c =
-    let a = c.args in
-    let l = c.loop-left in
-    from_done a.sizes.words a.sizes.slot a.sizes.entries a.sizes.places a.sizes.entries l.place a.sizes.block l.left l.t.now l.targets _ l.invariant.5 c.loop-left-test.false
+    let l = c.loop-place in
+    from_done _ _ _ _ _ _ l.targets _ (going_done _ _ _ (enumerate_source l.place-iterator) (enumerate_source c.next.new.self) l.invariant.1 c.in-None.ensures.steps.0).1

@@ -1,15 +1,17 @@
 -- `messages` meets its contract.
-use Prim.Native.Nat.{◌+◌, ◌*◌, ◌≤◌}
+use Prim.Native.Nat.{◌+◌}
 use mathlib.Core.Path.{◌≡◌}
 use lib.ListN.{length}
-use Rattle.lists.specs.Lists.{All}
+use Rattle.std.specs.Iterator.Adapters.{enumerate_source, enumerate_count}
 use Rattle.lists.proofs.Blocks.{chop}
+use Rattle.slots.proofs.Chunks.{Going}
 use Rattle.soundness.specs.MessageTests.{TakenBlock, arrive_from}
 use Rattle.soundness.proofs.messages.messages.Given as goal
 
-abbrev pub invariant-loop-left : goal.invariant-loop-left
-invariant-loop-left l =
-    (length l.t ≡ l.left * l.sizes.block) × (length l.t ≤ length l.blocks) × All (TakenBlock l.sizes.words l.sizes.slot l.sizes.entries) (chop l.left l.sizes.block l.t) × (length l.targets ≡ length l.initial.targets) × (l.left + l.place ≡ l.sizes.places) × (arrive_from l.sizes.words l.sizes.slot l.sizes.entries l.sizes.places l.sizes.entries 0 (chop l.sizes.places l.sizes.block l.blocks) l.initial.targets ≡ arrive_from l.sizes.words l.sizes.slot l.sizes.entries l.sizes.places l.sizes.entries l.place (chop l.left l.sizes.block l.t) l.targets)
-
-abbrev pub decreases-loop-left : goal.decreases-loop-left
-decreases-loop-left l = l.left
+abbrev pub invariant-loop-place : goal.invariant-loop-place
+invariant-loop-place l =
+    let s = l.sizes in
+    let place = enumerate_count l.place-iterator in
+    (length l.targets ≡ length l.initial.targets)
+    × Going s.block (TakenBlock s.words s.slot s.entries) (λ blocks. (place + length blocks ≡ s.places)
+    × (arrive_from s.words s.slot s.entries s.places s.entries 0 (chop s.places s.block l.blocks) l.initial.targets ≡ arrive_from s.words s.slot s.entries s.places s.entries place blocks l.targets)) (enumerate_source l.place-iterator)

@@ -1,22 +1,20 @@
 -- `soundness::sound::sound_blocks` meets its contract.
 use native.Mathlib.Omega.{arith}
-use Rattle.soundness.proofs.WholeLaws.{lent_long, lent_whole, len_some, size_few, places_few, entries_few, store_tested}
+use Rattle.store.specs.Sized.{as_sizes}
+use Rattle.soundness.proofs.WholeLaws.{lent_long, lent_whole, store_tested}
 use Rattle.soundness.proofs.sound.sound_blocks.Goals as goal
 
-pub overflow_cast-entries : goal.overflow_cast-entries
-overflow_cast-entries c = omega (arith, c.type_inv.store 1)
-
-pub overflow_cast-words : goal.overflow_cast-words
-overflow_cast-words c = omega (arith, c.type_inv.store 2)
+pub at_head-sizes-requires : goal.at_head-sizes-requires
+at_head-sizes-requires c = (omega (arith, c.requires.long), c.requires.sizes_pass)
 
 pub sound_slots-requires : goal.sound_slots-requires
 sound_slots-requires c =
-    let l = c.args.store.now in
-    let f = c.requires in
-    let es = c.slot_size.ensures in
-    let el = c.block_size.ensures in
+    let s = c.at_head-sizes.result in
+    let e = c.at_head-sizes.ensures in
     let ea = c.needed-all.ensures in
-    (lent_long l f _ _ _ es el ea, lent_whole l f _ _ _ es el ea, len_some l f _ _ _ es el ea, places_few l f _ _ _ es el ea, entries_few l f _ _ _ es el ea, size_few l f _ _ _ es el ea)
+    (lent_long _ c.requires (as_sizes s) e _ _ _ s.slot_is s.block_is ea, lent_whole _ c.requires (as_sizes s) e _ _ _ s.slot_is s.block_is ea)
 
 pub returns : goal.returns
-returns c = search store_tested
+returns c =
+    let s = c.at_head-sizes.result in
+    store_tested _ c.requires (as_sizes s) c.at_head-sizes.ensures _ _ _ s.slot_is s.block_is c.needed-all.ensures _ _ c.sound_slots.ensures

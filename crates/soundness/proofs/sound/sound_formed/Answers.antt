@@ -1,20 +1,16 @@
 -- `soundness::sound::sound_formed` meets its contract.
-use mathlib.Core.Path.{sym}
-use lib.Seq.{length-take-le}
+use Rattle.checks.proofs.CheckLaws.{counted_few}
 use Rattle.soundness.proofs.SoundDecided.{bad_module, bad_functions, image_decided}
 use Rattle.soundness.proofs.sound.sound_formed.Goals as goal
 
 pub returns-in_default : goal.returns-in_default
-returns-in_default c = search bad_module
+returns-in_default c = search (bad_module, c.in_default.ensures)
 
-pub returns-in_default-shape : goal.returns-in_default-shape
-returns-in_default-shape c = search bad_functions
+pub returns-in_default-read_functions : goal.returns-in_default-read_functions
+returns-in_default-read_functions c = search (bad_functions, c.in-Ok.ensures, c.in_default-read_functions.ensures)
 
 pub slice_bounds-counts-end : goal.slice_bounds-counts-end
-slice_bounds-counts-end c = (c.read_functions-shape.ensures.counted _ c.in-Count.is).1
-
-pub slice_bounds-sound_blocks-end : goal.slice_bounds-sound_blocks-end
-slice_bounds-sound_blocks-end c = sym (length-take-le _ _ (c.read_functions-shape.ensures.counted _ c.in-Count.is).1)
+slice_bounds-counts-end c = counted_few _ _ _ c.in-Ok-read_functions.ensures
 
 pub returns : goal.returns
-returns c = search image_decided
+returns c = search (image_decided, c.in-Ok.ensures, c.in-Ok-read_functions.ensures)

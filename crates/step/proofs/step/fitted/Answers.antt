@@ -5,5 +5,5 @@ use Rattle.step.proofs.step.fitted.Goals as goal
 pub returns-then-r-room : goal.returns-then-r-room
 returns-then-r-room c = search fitted_row
 
-pub returns : goal.returns
-returns c = search fitted_large
+pub returns-else-r-room : goal.returns-else-r-room
+returns-else-r-room c = search fitted_large

@@ -1,15 +1,9 @@
 -- `call_doing` meets its contract.
-use Rattle.step.proofs.RowWork.{doing_stuck, doing_short, doing_here, doing_there}
+use Rattle.step.proofs.RowWork.{call_stuck, call_goes}
 use Rattle.step.proofs.work.call_doing.Goals as goal
 
-pub returns-in-Stuck : goal.returns-in-Stuck
-returns-in-Stuck c = search doing_stuck
+pub returns-in-Some : goal.returns-in-Some
+returns-in-Some c = search call_goes
 
-pub returns-in-Short : goal.returns-in-Short
-returns-in-Short c = search doing_short
-
-pub returns-in-Here : goal.returns-in-Here
-returns-in-Here c = search doing_here
-
-pub returns-in-There : goal.returns-in-There
-returns-in-There c = search doing_there
+pub returns-in-None : goal.returns-in-None
+returns-in-None c = search call_stuck

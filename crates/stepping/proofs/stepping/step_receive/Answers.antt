@@ -1,20 +1,22 @@
 -- `step_receive` meets its contract.
+use mathlib.Core.Path.{◌∙◌, ap}
+use Rattle.std.specs.Prelude.{Err}
 use Rattle.stepping.proofs.Steps.{receive_does, receive_large, receive_waits, receive_ready, about_lives}
 use Rattle.stepping.proofs.stepping.step_receive.Goals as goal
 
-pub pick-picked-requires : goal.pick-picked-requires
-pick-picked-requires c = search about_lives
+pub pick-place-requires : goal.pick-place-requires
+pick-place-requires c = search about_lives
 
 pub make_rec-requires : goal.make_rec-requires
 make_rec-requires c =
     let start = c in
-    receive_ready _ _ _ _ _ start.requires.1 c.pick-picked.ensures start.requires.2 _ start.requires.0 c.in-Row.is
+    receive_ready _ _ _ _ _ start.requires.1 c.pick-place.ensures start.requires.2 _ start.requires.0 c.in-Ok.is
 
-pub returns-in-Nothing : goal.returns-in-Nothing
-returns-in-Nothing c = search receive_waits
+pub returns-in-Err-Nothing : goal.returns-in-Err-Nothing
+returns-in-Err-Nothing c = let k = c.in-Err-Nothing in search (receive_waits, k.is ∙ ap Err (rw k.is at k.field-0-is))
 
-pub returns-in-TooLarge : goal.returns-in-TooLarge
-returns-in-TooLarge c = search receive_large
+pub returns-in-Err-TooLarge : goal.returns-in-Err-TooLarge
+returns-in-Err-TooLarge c = let k = c.in-Err-TooLarge in search (receive_large, k.is ∙ ap Err (rw k.is at k.field-0-is))
 
-pub returns-in-Row : goal.returns-in-Row
-returns-in-Row c = search receive_does
+pub returns-in-Ok : goal.returns-in-Ok
+returns-in-Ok c = search receive_does

@@ -1,10 +1,11 @@
 -- `block_formed` meets its contract.
-use Rattle.store.specs.Sizing.{sizes_of}
-use Rattle.store.proofs.WellTestBlock.{SlotsLeft}
+use lib.ListN.{length}
+use Rattle.store.specs.Sized.{as_sizes}
+use Rattle.store.proofs.WellTestBlock.{SomeLeft}
 use Rattle.store.proofs.well_formed.block_formed.Given as goal
 
-abbrev pub invariant-loop-left : goal.invariant-loop-left
-invariant-loop-left l = SlotsLeft (sizes_of l.places l.entries l.words) l.block l.rest l.left
+abbrev pub invariant-loop-rest : goal.invariant-loop-rest
+invariant-loop-rest l = SomeLeft (as_sizes l.sizes) l.block l.rest
 
-abbrev pub decreases-loop-left : goal.decreases-loop-left
-decreases-loop-left l = l.left
+abbrev pub decreases-loop-rest : goal.decreases-loop-rest
+decreases-loop-rest l = length l.rest

@@ -1,6 +1,5 @@
 -- `write_names` meets its contract.
-use Prim.Native.Nat.{◌≤◌, ◌-◌}
-use lib.ListN.{length, take}
+use lib.ListN.{take}
 use mathlib.Core.List.{map}
 use Rattle.rules.specs.Text.{spaced}
 use Rattle.text.specs.Lines.{name_in}
@@ -8,7 +7,4 @@ use Rattle.text.specs.Written.{Wrote}
 use Rattle.text.proofs.listing.write_names.Given as goal
 
 abbrev pub invariant-loop-i : goal.invariant-loop-i
-invariant-loop-i l = (l.i ≤ length l.names) × Wrote (spaced (map name_in (take l.i l.names))) l.at l.initial.out l.out l.to
-
-abbrev pub decreases-loop-i : goal.decreases-loop-i
-decreases-loop-i l = length l.names - l.i
+invariant-loop-i l = Wrote (spaced (map name_in (take l.i l.names))) l.at l.initial.out l.out l.to

@@ -6,4 +6,6 @@ use Rattle.text.proofs.listing.write_newest.Goals as goal
 
 pub returns : goal.returns
 unfolding newest_line line bytes
-returns c = search wrote_line
+returns c =
+    let name = rw c.kind_name.ensures at c.write_bytes-end.ensures in
+    wrote_line c.write_bytes-to.ensures name c.write_line_feed.ensures

@@ -1,35 +1,35 @@
 -- `locate` meets its contract.
+use Prim.Native.Nat.{◌+◌, ◌*◌}
+use mathlib.Core.Path.{◌≡◌, ◌∙◌, ap}
 use native.Mathlib.Omega.{arith}
-use Rattle.reading.proofs.Holding.{head_in, good_read, place_read, index_read, slot_low}
+use lib.ListN.{get_or}
+use Rattle.rules.specs.State.{Sizes}
+use Rattle.store.specs.Layout.{blocks_from, slot_size, block_size}
+use Rattle.reading.proofs.Holding.{head_in, good_read, place_read, index_read, sizes_read, slot_low}
 use Rattle.writing.proofs.SpanLaws.{located}
 use Rattle.writing.proofs.spans.locate.Goals as goal
+use Rattle.writing.proofs.spans.locate.Goals.{After-slot_start-from}
 
-pub bounds-store-0 : goal.bounds-store-0
-bounds-store-0 c = omega (arith, head_in _ c.requires.0)
+-- where the slot stands, by the sizes that the store says
+starts : (c : After-slot_start-from) → c.slot_start-from.result ≡ blocks_from + c.args.p * block_size (sizes_read c.args.store.now) + c.args.i * slot_size (sizes_read c.args.store.now)
+starts c = c.slot_start-from.ensures ∙ ap (λ (y : Sizes). blocks_from + c.args.p * block_size y + c.args.i * slot_size y) c.at_head-sizes.ensures
 
-pub overflow_cast-places : goal.overflow_cast-places
-overflow_cast-places c = omega (arith, c.type_inv.store 0)
+long : (c : After-slot_start-from) → c.at_head-sizes.result.slot ≡ slot_size (sizes_read c.args.store.now)
+long c = c.at_head-sizes.result.slot_is ∙ ap slot_size c.at_head-sizes.ensures
 
-pub bounds-store-1 : goal.bounds-store-1
-bounds-store-1 c = omega (arith, head_in _ c.requires.0)
+room : (c : After-slot_start-from) → c.at_head-sizes.result.words ≡ get_or c.args.store.now 2 0
+room c = ap (λ (y : Sizes). y.words) c.at_head-sizes.ensures
 
-pub overflow_cast-entries : goal.overflow_cast-entries
-overflow_cast-entries c = omega (arith, c.type_inv.store 1)
-
-pub bounds-store-2 : goal.bounds-store-2
-bounds-store-2 c = omega (arith, head_in _ c.requires.0)
-
-pub overflow_cast-words : goal.overflow_cast-words
-overflow_cast-words c = omega (arith, c.type_inv.store 2)
+pub at_head-sizes-requires : goal.at_head-sizes-requires
+at_head-sizes-requires c = (omega (arith, head_in _ c.requires.0), good_read _ c.requires.0)
 
 pub slot_start-from-requires : goal.slot_start-from-requires
-slot_start-from-requires c = let S = c in (good_read _ S.requires.0, place_read _ S.requires.0 S.requires.1, index_read _ S.requires.0 S.requires.2)
-
-pub slot_size-size-requires : goal.slot_size-size-requires
-slot_size-size-requires c = good_read _ c.requires.0
+slot_start-from-requires c =
+    let e = c.at_head-sizes.ensures in
+    (omega (arith, place_read _ c.requires.0 c.requires.1, ap (λ (y : Sizes). y.places) e), omega (arith, index_read _ c.requires.0 c.requires.2, ap (λ (y : Sizes). y.entries) e))
 
 pub overflow_add-result : goal.overflow_add-result
-overflow_add-result c = let S = c in omega (arith, slot_low _ S.requires.0 _ _ _ _ S.requires.1 S.requires.2 c.slot_start-from.ensures c.slot_size-size.ensures)
+overflow_add-result c = let at = (goal.at.overflow_add-result c).After-slot_start-from in omega (arith, slot_low _ c.requires.0 _ _ _ _ c.requires.1 c.requires.2 (starts at) (long at))
 
 pub returns : goal.returns
-returns c = let S = c in located _ S.requires.0 _ _ _ _ S.requires.1 S.requires.2 c.slot_start-from.ensures c.slot_size-size.ensures
+returns c = let at = (goal.at.returns c).After-slot_start-from in located _ c.requires.0 _ _ _ _ _ c.requires.1 c.requires.2 (starts at) (long at) (room at)

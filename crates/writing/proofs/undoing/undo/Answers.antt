@@ -1,6 +1,9 @@
 -- `undo` meets its contract.
+use mathlib.Core.Path.{refl}
+use Rattle.reading.proofs.KindReads.{other_kind}
 use native.Mathlib.Omega.{arith}
 use Rattle.writing.proofs.SpanLaws.{no_entry, two_slots}
+use Rattle.writing.proofs.SlotCode.{zero_filled}
 use Rattle.writing.proofs.UndoLaws.{undoing_place, newest_index, some_entry, newest_entry, undo_leads, release_leads, child_place, unbear_leads}
 use Rattle.writing.proofs.undoing.undo.Goals as goal
 
@@ -16,23 +19,23 @@ locate-newest-requires c = let S = c in (S.requires.0, undoing_place _ _ S.requi
 pub overflow_sub-count : goal.overflow_sub-count
 overflow_sub-count c = let S = c in some_entry _ _ _ S.requires.1 c.entry_count-count.ensures S.requires.0
 
-pub kind-what-requires : goal.kind-what-requires
-kind-what-requires c = let S = c in (S.requires.0, newest_entry _ _ _ S.requires.1 c.entry_count-count.ensures)
+pub kind-requires : goal.kind-requires
+kind-requires c = let S = c in (S.requires.0, newest_entry _ _ _ S.requires.1 c.entry_count-count.ensures)
 
 pub release-requires : goal.release-requires
 release-requires c = two_slots _ c.requires.0 _ _ _ _ _ _ c.locate-newest.ensures c.locate-present.ensures
 
-pub returns-then-what-eq-REC : goal.returns-then-what-eq-REC
-returns-then-what-eq-REC c = release_leads _ _ _ c.requires.1 c.entry_count-count.ensures _ _ c.locate-present.ensures c.locate-newest.ensures _ c.kind-what.ensures _ c.if-what-eq-REC.true c.release.ensures
+pub returns-in-Rec : goal.returns-in-Rec
+returns-in-Rec c = release_leads _ _ _ c.requires.1 c.entry_count-count.ensures _ _ c.locate-present.ensures c.locate-newest.ensures _ c.in-Rec.ensures _ refl c.release.ensures
 
-pub overflow_sub-count-then-what-eq-SPAWN : goal.overflow_sub-count-then-what-eq-SPAWN
-overflow_sub-count-then-what-eq-SPAWN c = let S = c in some_entry _ _ _ S.requires.1 c.entry_count-count.ensures S.requires.0
+pub overflow_sub-count-in-Spawn : goal.overflow_sub-count-in-Spawn
+overflow_sub-count-in-Spawn c = let S = c in some_entry _ _ _ S.requires.1 c.entry_count-count.ensures S.requires.0
 
 pub number-child-requires : goal.number-child-requires
 number-child-requires c = let S = c in (S.requires.0, newest_entry _ _ _ S.requires.1 c.entry_count-count.ensures)
 
 pub locate-gone-requires : goal.locate-gone-requires
-locate-gone-requires c = (c.requires.0, child_place _ _ _ c.requires.1 c.entry_count-count.ensures _ _ c.locate-present.ensures c.locate-newest.ensures _ c.kind-what.ensures _ c.if-what-eq-SPAWN.true c.number-child.ensures, no_entry _)
+locate-gone-requires c = (c.requires.0, child_place _ _ _ c.requires.1 c.entry_count-count.ensures _ _ c.locate-present.ensures c.locate-newest.ensures _ c.in-Spawn.ensures _ refl c.number-child.ensures, no_entry _)
 
 pub shrink-requires : goal.shrink-requires
 shrink-requires c = two_slots _ c.requires.0 _ _ _ _ _ _ c.locate-newest.ensures c.locate-present.ensures
@@ -40,11 +43,11 @@ shrink-requires c = two_slots _ c.requires.0 _ _ _ _ _ _ c.locate-newest.ensures
 pub offset_bounds-store-from : goal.offset_bounds-store-from
 offset_bounds-store-from c = let at = c.locate-gone.ensures in omega (arith, at.adds, at.low)
 
-pub returns-then-what-eq-SPAWN : goal.returns-then-what-eq-SPAWN
-returns-then-what-eq-SPAWN c = unbear_leads _ _ _ c.requires.1 c.entry_count-count.ensures _ _ c.locate-present.ensures c.locate-newest.ensures _ c.kind-what.ensures _ c.if-what-eq-SPAWN.true c.number-child.ensures _ c.locate-gone.ensures _ _ c.shrink.auto.store c.shrink.ensures c.clear.ensures
+pub returns-in-Spawn : goal.returns-in-Spawn
+returns-in-Spawn c = unbear_leads _ _ _ c.requires.1 c.entry_count-count.ensures _ _ c.locate-present.ensures c.locate-newest.ensures _ c.in-Spawn.ensures _ refl c.number-child.ensures _ c.locate-gone.ensures _ _ c.shrink.auto.store c.shrink.ensures (zero_filled _ _ (c.fill.ensures.after (λ y e. e)))
 
-pub shrink-requires-2 : goal.shrink-requires-2
-shrink-requires-2 c = two_slots _ c.requires.0 _ _ _ _ _ _ c.locate-newest.ensures c.locate-present.ensures
+pub shrink-requires-in_default : goal.shrink-requires-in_default
+shrink-requires-in_default c = two_slots _ c.requires.0 _ _ _ _ _ _ c.locate-newest.ensures c.locate-present.ensures
 
-pub returns : goal.returns
-returns c = undo_leads _ _ _ c.requires.1 c.entry_count-count.ensures _ _ c.locate-present.ensures c.locate-newest.ensures _ c.kind-what.ensures _ c.if-what-eq-REC.false c.if-what-eq-SPAWN.false c.shrink-2.ensures
+pub returns-in_default : goal.returns-in_default
+returns-in_default c = undo_leads _ _ _ c.requires.1 c.entry_count-count.ensures _ _ c.locate-present.ensures c.locate-newest.ensures _ c.kind.ensures _ (other_kind c.in_default.not-Rec) (other_kind c.in_default.not-Spawn) c.shrink-in_default.ensures
