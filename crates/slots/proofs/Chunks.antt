@@ -1,5 +1,5 @@
 -- Going over blocks of one size by `chunks_exact`: those that are ahead, the first of them, and the others.
-use Prim.Native.Nat.{ℕ, ◌-◌, ◌*◌, ◌<◌}
+use Prim.Native.Nat.{ℕ, zero, suc, ◌-◌, ◌*◌, ◌<◌}
 use mathlib.Core.Path.{◌≡◌, refl, sym, ◌∙◌, ap, subst}
 use mathlib.Core.List.{List, [], ◌∷◌, ◌++◌, append-nil}
 use native.Mathlib.Omega.{arith}
@@ -52,6 +52,18 @@ pub any_all : (blocks : List (List ℕ)) → All Any blocks
 unfolding All
 any_all [] = tt
 any_all (b ∷ blocks) = (tt, any_all blocks)
+
+-- where there are blocks, and none is empty, their size is not 0
+pub size_some : (P : List ℕ → Type 0) → ((b : List ℕ) → P b → 0 < length b) → (n size : ℕ) (l : List ℕ) → All P (chop n size l) → ¬ (n ≡ 0) → 0 < size
+unfolding chop All
+size_some P full zero size l each some = absurd (some refl)
+size_some P full (suc n) zero l each some = full [] each.0
+size_some P full (suc n) (suc size) l each some = omega arith
+
+-- nor is that of the slots in a block that is not empty: one, and so many behind it
+pub slot_some : (size n : ℕ) (b : List ℕ) → 0 < length b → length (drop size b) ≡ n * size → 0 < size
+slot_some zero n b full long = omega (arith, full, long)
+slot_some (suc size) n b full long = omega arith
 
 -- a loop over blocks of a size, each with a property P, that M is said of those ahead
 module _ (size : ℕ) (P : List ℕ → Type 0) where

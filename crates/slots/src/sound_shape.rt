@@ -4,12 +4,13 @@ ghost use Rattle.lists.specs.Lists.{All, chop};
 ghost use Rattle.store.specs.Layout.{slot_head};
 ghost use Rattle.slots.specs.SoundTests.{ControlFits, Slots, plain_slot, present_slot, entry_slot, control_passes, entry_passes, entries_pass, ControlBlock, place_passes, every_of};
 
+use crate::blocks::Sizes;
 use checks::control::check_control;
 use store::layout::{
     CHECK, FREE, LIVE, REC, SELF, SEND, SEQ, SLOT_HEAD, SLOT_KIND, SLOT_NUMBER, SLOT_QUEUE,
     SLOT_WORDS, SPAWN,
 };
-use store::sizes::Sizes;
+use store::sizes::Sizes as StoreSizes;
 
 // The greatest number of a check.
 const GREATEST_CHECK: u32 = 255;
@@ -71,6 +72,10 @@ pub fn entries_pass(block: &[u32], sizes: Sizes, places: u32, arities: &[u32]) -
     requires { (sizes.slot ≤ length block.now) × Slots 0 sizes.slot sizes.entries (drop sizes.slot block.now) × All ControlFits (chop sizes.entries sizes.slot (drop sizes.slot block.now)) }
     ensures { result ≡ entries_pass sizes.slot sizes.entries places arities.now block.now }
 {
+    // Without entries a slot may have no words, and there are no chunks of that size.
+    if sizes.entries == 0 {
+        return true;
+    }
     for slot in block[sizes.slot..].chunks_exact(sizes.slot) {
         if !entry_passes(slot, places, arities) {
             return false;
@@ -97,12 +102,20 @@ fn place_passes(block: &[u32], sizes: Sizes, places: u32, arities: &[u32]) -> bo
 }
 
 // The slots of all places.
-pub fn places_pass(blocks: &[u32], sizes: Sizes, places: u32, arities: &[u32]) -> bool
+pub fn places_pass(blocks: &[u32], sizes: StoreSizes, places: u32, arities: &[u32]) -> bool
     requires { (length blocks.now ≡ sizes.places * sizes.block) × All (ControlBlock sizes.slot sizes.entries) (chop sizes.places sizes.block blocks.now) }
     ensures { result ≡ every_of (place_passes sizes.slot sizes.entries places arities.now) (chop sizes.places sizes.block blocks.now) }
 {
+    // The tests of a place ask no more of sizes than their numbers.
+    let numbers = Sizes {
+        places: sizes.places,
+        entries: sizes.entries,
+        words: sizes.words,
+        slot: sizes.slot,
+        block: sizes.block,
+    };
     for block in blocks.chunks_exact(sizes.block) {
-        if !place_passes(block, sizes, places, arities) {
+        if !place_passes(block, numbers, places, arities) {
             return false;
         }
     }

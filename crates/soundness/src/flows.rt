@@ -5,8 +5,8 @@ ghost use Rattle.slots.specs.SoundTests.{NamesFit, Slots, Block, names_in, every
 ghost use Rattle.soundness.specs.MessageTests.{flows_on, place_flows};
 
 use prefixes::prefixes::left_begins;
+use slots::blocks::Sizes;
 use store::layout::{REC, SLOT_HEAD, SLOT_KIND, SLOT_NUMBER, SLOT_QUEUE};
-use store::sizes::Sizes;
 
 // The recs among the entries of a place, oldest first, and the present queue after them.
 fn place_flows(block: &[u32], sizes: Sizes) -> bool
@@ -38,6 +38,10 @@ pub fn flows(blocks: &[u32], sizes: Sizes) -> bool
     requires { (length blocks.now ≡ sizes.places * sizes.block) × All (Block sizes.words sizes.slot sizes.entries) (chop sizes.places sizes.block blocks.now) }
     ensures { result ≡ every_of (place_flows sizes.words sizes.slot sizes.entries) (chop sizes.places sizes.block blocks.now) }
 {
+    // Without places a block may have no words, and there are no chunks of that size.
+    if sizes.places == 0 {
+        return true;
+    }
     for block in blocks.chunks_exact(sizes.block) {
         if !place_flows(block, sizes) {
             return false;

@@ -12,15 +12,16 @@ ghost use Rattle.soundness.specs.StoreTests.{WholeBlock, MessagesTested, SlotsTe
 use crate::flows::flows;
 use crate::messages::messages;
 use checks::module::{LONGEST, check_module, read_functions};
+use slots::blocks::Sizes;
 use slots::sound_births::{births, live_places};
 use slots::sound_sends::note_places;
 use slots::sound_shape::places_pass;
 use store::layout::{BLOCKS, HEAD, HEAD_MODULE, NAMES_ROOM};
-use store::sizes::Sizes;
+use store::sizes::Sizes as StoreSizes;
 use store::well_formed::well_formed;
 
 // Each send is to a live place, each message that came was sent to its place and came once, and what recs left are prefixes.
-fn sound_messages(blocks: &[u32], sizes: Sizes, live: &[bool]) -> bool
+fn sound_messages(blocks: &[u32], sizes: StoreSizes, live: &[bool]) -> bool
     requires { (length blocks.now ≡ sizes.places * sizes.block) × All (ControlBlock sizes.slot sizes.entries) (chop sizes.places sizes.block blocks.now) × All (TakenBlock sizes.words sizes.slot sizes.entries) (chop sizes.places sizes.block blocks.now) × (length live.now ≡ most_places) }
     ensures { MessagesTested live.now sizes.places sizes.entries sizes.words sizes.slot (chop sizes.places sizes.block blocks.now) result }
 {
@@ -28,14 +29,22 @@ fn sound_messages(blocks: &[u32], sizes: Sizes, live: &[bool]) -> bool
     if !note_places(blocks, sizes, live, &mut targets) {
         return false;
     }
-    if !messages(blocks, sizes, &mut targets) {
+    // The tests of messages and of flows ask no more of sizes than their numbers.
+    let numbers = Sizes {
+        places: sizes.places,
+        entries: sizes.entries,
+        words: sizes.words,
+        slot: sizes.slot,
+        block: sizes.block,
+    };
+    if !messages(blocks, numbers, &mut targets) {
         return false;
     }
-    flows(blocks, sizes)
+    flows(blocks, numbers)
 }
 
 // The slots of a store that keeps the layout; the first process, at place 0, is live.
-fn sound_slots(blocks: &[u32], sizes: Sizes, arities: &[u32]) -> bool
+fn sound_slots(blocks: &[u32], sizes: StoreSizes, arities: &[u32]) -> bool
     requires { (length blocks.now ≡ sizes.places * sizes.block) × All (WholeBlock sizes.words sizes.slot sizes.entries) (chop sizes.places sizes.block blocks.now) }
     ensures { SlotsTested sizes.places sizes.entries sizes.words sizes.slot arities.now (chop sizes.places sizes.block blocks.now) result }
 {
@@ -57,7 +66,7 @@ fn sound_blocks(store: &[u32], arities: &[u32]) -> bool
     requires { WellFormedStore store.now }
     ensures { StoreTested store.now arities.now result }
 {
-    let sizes = Sizes::at_head(store);
+    let sizes = StoreSizes::at_head(store);
     let all = sizes.needed();
     sound_slots(&store[BLOCKS..all], sizes, arities)
 }

@@ -7,5 +7,6 @@ use Rattle.slots.proofs.sound_shape.places_pass.Given as goal
 
 abbrev pub invariant-loop-block : goal.invariant-loop-block
 invariant-loop-block l =
-    let test = every_of (place_passes l.sizes.slot l.sizes.entries l.places l.arities) in
-    Going l.sizes.block (ControlBlock l.sizes.slot l.sizes.entries) (λ blocks. test (chop l.sizes.places l.sizes.block l.blocks) ≡ test blocks) l.block-iterator
+    let sizes = l.fn.sizes in
+    let test = every_of (place_passes sizes.slot sizes.entries l.places l.arities) in
+    Going sizes.block (ControlBlock sizes.slot sizes.entries) (λ blocks. test (chop sizes.places sizes.block l.blocks) ≡ test blocks) l.block-iterator
