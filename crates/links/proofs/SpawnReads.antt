@@ -14,16 +14,19 @@ use Rattle.rules.specs.State.{Kind, seq, send, rec, spawn, self, check, as_spawn
 use Rattle.rules.specs.Sound.{SpawnedBy}
 use Rattle.rules.specs.Depends.{Series, is_spawn_of}
 use Rattle.demands.proofs.EventDepends.{stands_entry, spawn_of}
+use Rattle.store.specs.Image.{IsImage}
 use Rattle.store.specs.Layout.{kind_number, number_in, kind_send, kind_spawn}
 use Rattle.kinds.specs.declared.Kind.TheVariants.{Spawn}
 use Rattle.reading.specs.Reads.{OfState, IsEntry, OfEntry, OfSend, is_numbered}
 use Rattle.reading.proofs.Oldest.{entry_exists}
 use Rattle.reading.proofs.Slotted.{entry_below, entry_place}
+use Rattle.cuts.specs.Bounds.{most_places, most_entries}
 use Rattle.cuts.specs.declared.events.Event.{Event}
 use Rattle.cuts.specs.declared.link.Link.{Link}
 use Rattle.links.specs.Listed.{IsKind, SpawnIn, BornBy, AimsAt, Adds}
 use Rattle.links.proofs.LinkAdds.{event_at, add_event, Just, adds_none, adds_one}
 use Rattle.links.proofs.LinkReads.{spawn_kind, with_stands, target_at, aim_just, aim_none, unaimed}
+use Rattle.links.proofs.LinkWhole.{entry_low}
 
 spawn_not : (kind : Kind) → ¬ (kind_number kind ≡ kind_spawn) → as_spawn kind ≡ none
 unfolding kind_number as_spawn
@@ -130,3 +133,11 @@ module _ (store : List ℕ) (p i : ℕ) (there-is : OfState store (IsEntry p i))
   aim_other k links read n = adds_none (AimsAt p i) 1
       (with_stands store p i there-is (λ s. (x : Series) (a : ℕ) (y : Series) (b : ℕ) → ¬ AimsAt p i s x a y b) λ s rest holds e g st.
       unaimed holds.sound st (λ z. n (read s rest holds e (stands_entry st) ∙ z)))
+
+-- a spawn stands at a place that there is
+pub born_low : (store : List ℕ) (q u j : ℕ) → IsImage store → OfState store (BornBy q (Some (event_at (2 * u) j))) → (u < most_places) × (j < most_entries)
+unfolding OfState BornBy
+born_low store q u j is_image born = entry_low store is_image u j λ s rest holds.
+    let (p, line, by) = born s rest holds in
+    let e : p ≡ u = omega (arith, line) in
+    subst (λ z. j < length (history_at s z)) e (entry_below (history_at s p) j by.stands)

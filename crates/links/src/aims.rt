@@ -4,11 +4,11 @@ ghost use Rattle.std.specs.Prelude.{◌<◌, length};
 ghost use Rattle.store.specs.Image.{IsImage};
 ghost use Rattle.store.specs.Layout.{kind_send};
 ghost use Rattle.reading.specs.Reads.{OfState, IsPlace, IsEntry};
-ghost use Rattle.cuts.specs.Bounds.{most_links};
 ghost use Rattle.links.specs.Listed.{IsKind, SpawnIn, BornBy, AimsAt, Adds};
 
+use arrayvec::ArrayVec;
 use cuts::events::{Event, entry};
-use cuts::link::{Link, LinkVec};
+use cuts::link::Link;
 use kinds::Kind;
 use reading::entries::{is_numbered, kind};
 use reading::mail::target;
@@ -44,8 +44,8 @@ fn spawn_of(store: &[u32], q: u32) -> Option<Event>
 }
 
 // The link of entry i of p, a send.
-fn aim_send(store: &[u32], p: usize, i: usize, links: &mut LinkVec)
-    requires { IsImage store.now × OfState store.now (IsEntry p i) × OfState store.now (IsKind p i kind_send) × (length links.old.items < most_links) }
+fn aim_send<const N: usize>(store: &[u32], p: usize, i: usize, links: &mut ArrayVec<Link, N>)
+    requires { IsImage store.now × OfState store.now (IsEntry p i) × OfState store.now (IsKind p i kind_send) × (length links.old.items < N) }
     ensures { Adds store.now (AimsAt p i) links.old.items links.new.items 1 }
 {
     if let Some(spawn) = spawn_of(store, target(store, p, i)) {
@@ -57,8 +57,8 @@ fn aim_send(store: &[u32], p: usize, i: usize, links: &mut LinkVec)
 }
 
 // Of any entry.
-pub fn aim_entry(store: &[u32], p: usize, i: usize, links: &mut LinkVec)
-    requires { IsImage store.now × OfState store.now (IsEntry p i) × (length links.old.items < most_links) }
+pub fn aim_entry<const N: usize>(store: &[u32], p: usize, i: usize, links: &mut ArrayVec<Link, N>)
+    requires { IsImage store.now × OfState store.now (IsEntry p i) × (length links.old.items < N) }
     ensures { Adds store.now (AimsAt p i) links.old.items links.new.items 1 }
 {
     if let Kind::Send = kind(store, p, i) {

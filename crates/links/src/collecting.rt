@@ -26,6 +26,7 @@ pub trait Sort {
 }
 
 // 01's list.
+#[derive(Clone, Copy)]
 pub struct Ties;
 
 impl Sort for Ties {
@@ -39,6 +40,7 @@ impl Sort for Ties {
 }
 
 // What undoing asks for besides.
+#[derive(Clone, Copy)]
 pub struct Aims;
 
 impl Sort for Aims {

@@ -4,12 +4,12 @@ ghost use Rattle.rules.specs.Standing.{seen};
 ghost use Rattle.store.specs.Image.{IsImage};
 ghost use Rattle.store.specs.Layout.{kind_send, kind_rec, kind_spawn};
 ghost use Rattle.reading.specs.Reads.{OfState, IsEntry};
-ghost use Rattle.cuts.specs.Bounds.{most_links};
 ghost use Rattle.links.specs.Listed.{IsKind, OfRec, TiesAt, Adds};
 
 use crate::arrivals::{arrival, recs_before};
+use arrayvec::ArrayVec;
 use cuts::events::{delivery, entry};
-use cuts::link::{Link, LinkVec};
+use cuts::link::Link;
 use kinds::Kind;
 use reading::entries::{kind, number, queue_before};
 use reading::mail::{sends_before, target};
@@ -24,8 +24,8 @@ fn seen_by(store: &[u32], p: usize, i: usize) -> usize
 }
 
 // A rec depends on the arrivals that it has seen, and those since depend on it.
-fn link_rec(store: &[u32], p: usize, i: usize, links: &mut LinkVec)
-    requires { IsImage store.now × OfState store.now (IsEntry p i) × OfState store.now (IsKind p i kind_rec) × (length links.old.items + 2 ≤ most_links) }
+fn link_rec<const N: usize>(store: &[u32], p: usize, i: usize, links: &mut ArrayVec<Link, N>)
+    requires { IsImage store.now × OfState store.now (IsEntry p i) × OfState store.now (IsKind p i kind_rec) × (length links.old.items + 2 ≤ N) }
     ensures { Adds store.now (TiesAt p i) links.old.items links.new.items 2 }
 {
     let n = seen_by(store, p, i);
@@ -41,8 +41,8 @@ fn link_rec(store: &[u32], p: usize, i: usize, links: &mut LinkVec)
 }
 
 // The arrival of a send's message depends on the send.
-fn link_send(store: &[u32], p: usize, i: usize, links: &mut LinkVec)
-    requires { IsImage store.now × OfState store.now (IsEntry p i) × OfState store.now (IsKind p i kind_send) × (length links.old.items < most_links) }
+fn link_send<const N: usize>(store: &[u32], p: usize, i: usize, links: &mut ArrayVec<Link, N>)
+    requires { IsImage store.now × OfState store.now (IsEntry p i) × OfState store.now (IsKind p i kind_send) × (length links.old.items < N) }
     ensures { Adds store.now (TiesAt p i) links.old.items links.new.items 2 }
 {
     let t = target(store, p, i) as usize;
@@ -56,8 +56,8 @@ fn link_send(store: &[u32], p: usize, i: usize, links: &mut LinkVec)
 }
 
 // The first events of a spawn's child depend on the spawn.
-fn link_spawn(store: &[u32], p: usize, i: usize, links: &mut LinkVec)
-    requires { IsImage store.now × OfState store.now (IsEntry p i) × OfState store.now (IsKind p i kind_spawn) × (length links.old.items + 2 ≤ most_links) }
+fn link_spawn<const N: usize>(store: &[u32], p: usize, i: usize, links: &mut ArrayVec<Link, N>)
+    requires { IsImage store.now × OfState store.now (IsEntry p i) × OfState store.now (IsKind p i kind_spawn) × (length links.old.items + 2 ≤ N) }
     ensures { Adds store.now (TiesAt p i) links.old.items links.new.items 2 }
 {
     let q = number(store, p, i) as usize;
@@ -73,8 +73,8 @@ fn link_spawn(store: &[u32], p: usize, i: usize, links: &mut LinkVec)
 }
 
 // The links of entry i of p.
-pub fn link_entry(store: &[u32], p: usize, i: usize, links: &mut LinkVec)
-    requires { IsImage store.now × OfState store.now (IsEntry p i) × (length links.old.items + 2 ≤ most_links) }
+pub fn link_entry<const N: usize>(store: &[u32], p: usize, i: usize, links: &mut ArrayVec<Link, N>)
+    requires { IsImage store.now × OfState store.now (IsEntry p i) × (length links.old.items + 2 ≤ N) }
     ensures { Adds store.now (TiesAt p i) links.old.items links.new.items 2 }
 {
     match kind(store, p, i) {
