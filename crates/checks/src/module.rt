@@ -58,7 +58,11 @@ fn keep_functions(row: &[u32], arities: &[u32]) -> Result<(), BadWord>
             at: at + 1,
             owed: 1,
         };
-        at = keep(&subject, body, &scope, &mut checks)?;
+        // No `?`: the position that goes out stands here, where an edit can plant another.
+        match keep(&subject, body, &scope, &mut checks) {
+            Ok(past) => at = past,
+            Err(bad) => return Err(bad),
+        }
     }
     Ok(())
 }

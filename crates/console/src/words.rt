@@ -29,14 +29,17 @@ fn word(text: &[u8]) -> u32 {
         .fold(0, |w, b| (w << DIGIT_BITS) | digit(*b))
 }
 
-// Words with single spaces between them, as many as there is room for; how many there are.
+// Words with single spaces between them, as many as there is room for; how many there are. A text of no bytes is one word of no digits, 0.
 pub fn read_words(text: &[u8], words: &mut [u32]) -> usize
     ensures { result ≤ length words.old }
 {
+    if let Some(first) = words.first_mut() {
+        *first = 0;
+    }
     for (place, digits) in words.iter_mut().zip(text.chunks(WORD_BYTES)) {
         *place = word(digits);
     }
-    words.len().min(text.len().div_ceil(WORD_BYTES))
+    words.len().min(text.len().div_ceil(WORD_BYTES).max(1))
 }
 
 // How many words a line that alters a store has: an index and a word.

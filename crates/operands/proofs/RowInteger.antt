@@ -1,5 +1,5 @@
 -- Laws of 32-bit integers in code. A signed local holds bits, so a read of z at the width w is `to_z w (of_z w z)`, which is z where z fits.
-use mathlib.Core.Path.{◌≡◌, refl, sym, ap, ◌∙◌}
+use mathlib.Core.Path.{◌≡◌, refl, sym, ap, ◌∙◌, subst}
 use mathlib.Core.Bool.{Bool, true, false, cond, ◌&&◌}
 use mathlib.Core.Option.{none, some}
 use Prim.Native.Nat.{ℕ, suc, ◌-◌, ◌≤◌, ◌<◌}
@@ -10,7 +10,7 @@ use lib.IntN.{ℤ, pos, negsuc, ◌-ℤ◌}
 use lib.Signed.{quot_z, rem_z, mag_rem}
 use mir.Syntax.{Width, w32}
 use mir.Val.{SFits, of_z, to_z, sel}
-use mir.ValLaws.{to_z-of_z, sfits_le}
+use mir.ValLaws.{to_z-of_z, of_z-to_z, sfits_le}
 use borrow.Author.Tests.{leb-true, le-leb, lt-ltb, ne_eqb}
 use Rattle.std.specs.Int.{CanDivide}
 use Rattle.std.specs.Prelude.{Option, Some, None, SomeIff}
@@ -47,6 +47,19 @@ signed_by w false h = ap (λ (t : Bool). cond t (negsuc (4294967296 - suc w)) (p
 pub signed_is : (w : ℕ) → w < 4294967296 → signed w ≡ to_z w32 w
 unfolding signed
 signed_is w h = signed_by w (ltb w 2147483648) h
+
+pub unsigned_signed : (w : ℕ) → w < 4294967296 → unsigned (signed w) ≡ w
+unsigned_signed w h = ap unsigned (signed_is w h) ∙ unsigned_is (to_z w32 w) ∙ of_z-to_z w32 w (record { fits = h })
+
+word_below : (z : ℤ) → SFits w32 z → of_z w32 z < 4294967296
+word_below (pos n) f = omega (arith, f.sfits)
+word_below (negsuc n) f = omega (arith, f.sfits)
+
+pub unsigned_below : (z : ℤ) → in_range z ≡ true → unsigned z < 4294967296
+unsigned_below z h = subst (λ (n : ℕ). n < 4294967296) (sym (unsigned_is z)) (word_below z (in→fits z h))
+
+pub signed_unsigned : (z : ℤ) → in_range z ≡ true → signed (unsigned z) ≡ z
+signed_unsigned z h = signed_is (unsigned z) (unsigned_below z h) ∙ ap (to_z w32) (unsigned_is z) ∙ to_z-of_z w32 z (in→fits z h)
 
 -- a read of a signed local
 abbrev pub read : Width → ℤ → ℤ

@@ -1,4 +1,5 @@
-// The operators on 32-bit signed integers: zero divisor, most negative value and range are found before anything is computed.
+// The operators on 32-bit signed integers: a zero divisor, the least integer by -1 and a result out of range are found by the library's checked
+// operations, which then give nothing.
 ghost use Rattle.std.specs.Prelude.{◌≡◌};
 ghost use Rattle.std.specs.Int.Signed.{rem_z};
 ghost use Rattle.machine.specs.Operator.{divided};

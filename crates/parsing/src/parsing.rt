@@ -52,7 +52,10 @@ pub fn read_number(text: &[u8]) -> Option<u32>
     if text.is_empty() {
         return None;
     }
-    if text.len() > 1 && text[0] == DIGIT_ZERO {
+    if text.len() == 1 {
+        return read_digits(text);
+    }
+    if text[0] == DIGIT_ZERO {
         return None;
     }
     read_digits(text)

@@ -1,13 +1,14 @@
 -- Rows tested for zeros word by word, and rows written with zeros behind them.
-use Prim.Native.Nat.{ℕ, zero, suc, ◌+◌, ◌-◌, ◌<◌, min}
+use Prim.Native.Nat.{ℕ, zero, suc, ◌+◌, ◌-◌, ◌≤◌, ◌<◌, min}
 use mathlib.Core.Path.{◌≡◌, refl, sym, ap, ◌∙◌}
 use mathlib.Core.Bool.{Bool, false}
 use mathlib.Core.List.{List, [], ◌∷◌, ◌++◌, append-nil}
+use native.Mathlib.Numerals.{add-one}
 use native.Mathlib.Omega.{arith}
-use lib.ListN.{length, take, drop, get_or, replicate, length-append, length-take, length-drop, drop_of_length-le}
+use lib.ListN.{length, take, drop, get_or, set, replicate, length-append, length-take, length-drop, drop_of_length-le}
 use borrow.Rule.Slice.PartMut.{mid_of, put_mid}
 use borrow.Author.Count.{below_more}
-use lib.Seq.{take_at}
+use lib.Seq.{take_at, drop-cons, take-suc, set_at, append_snoc, length-take-le}
 use Rattle.lists.specs.Lists.{All}
 use Rattle.lists.specs.Fill.{fill_to}
 use Rattle.lists.proofs.Fill.{fill_none}
@@ -49,6 +50,21 @@ fill_parts (suc n) m (w ∷ row) e =
     let more : m ≡ suc (min n (length row)) = omega (arith, e) in
     let left : suc n - suc (min n (length row)) ≡ n - min n (length row) = omega arith in
     rw (more, left) (ap (λ (l : List ℕ). w ∷ l) (fill_parts n (min n (length row)) row refl))
+
+-- all the room, where the row is as long
+pub filled_full : (n : ℕ) (row : List ℕ) → n ≤ length row → take n row ≡ fill_to n 0 row
+filled_full n row h =
+    let few : n ≡ min n (length row) = omega (arith, h) in
+    let none : n - n ≡ 0 = omega arith in
+    sym (fill_parts n n row few ∙ rw none (append-nil (take n row)))
+
+-- a row whose first words are written, and one more
+pub written_next : (old new : List ℕ) (i w : ℕ) → i < length new → i < length old → w ≡ get_or new i 0
+    → set (take i new ++ drop i old) i w ≡ take (i + 1) new ++ drop (i + 1) old
+written_next old new i w inside h q =
+    rw (q, drop-cons old i 0, add-one, take-suc new i 0)
+    (set_at (take i new) (get_or old i 0) (drop (suc i) old) (get_or new i 0) i (length-take-le i new (omega (arith, inside)))
+    ∙ sym (append_snoc (take i new) (get_or new i 0) (drop (suc i) old)))
 
 module _ (m : ℕ) (room row front behind : List ℕ) where
   pub filled : m ≡ min (length room) (length row) → front ≡ take m row
