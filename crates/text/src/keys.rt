@@ -1,4 +1,4 @@
-// The keys of commands and of the listing, each once, and single bytes.
+// The fixed strings of commands and of the listing, each once.
 
 // What begins a line of the answers and of the listing.
 pub const ANSWER: [u8; 7] = *b"answer=";
@@ -32,6 +32,21 @@ pub const UNDELIVER: [u8; 10] = *b"undeliver=";
 
 pub const ROLLBACK: [u8; 9] = *b"rollback=";
 
+// The newest entry's kind, or that there is none.
+pub const KIND_SEQ: [u8; 3] = *b"seq";
+
+pub const KIND_SEND: [u8; 4] = *b"send";
+
+pub const KIND_REC: [u8; 3] = *b"rec";
+
+pub const KIND_SPAWN: [u8; 5] = *b"spawn";
+
+pub const KIND_SELF: [u8; 4] = *b"self";
+
+pub const KIND_CHECK: [u8; 5] = *b"check";
+
+pub const KIND_NONE: [u8; 4] = *b"none";
+
 // Single bytes.
 pub const LINE_FEED: u8 = b'\n';
 
@@ -42,3 +57,5 @@ pub const COMMA: u8 = b',';
 pub const POINT: u8 = b'.';
 
 pub const DIGIT_ZERO: u8 = b'0';
+
+pub const DIGIT_NINE: u8 = b'9';

@@ -4,7 +4,10 @@ ghost use Rattle.rules.specs.Text.{spaced};
 ghost use Rattle.text.specs.Written.{Wrote};
 ghost use Rattle.text.specs.Lines.{name_in, newest_bytes, newest_line, queue_line, words_line, process_text};
 
-use crate::keys::{HISTORY, NEWEST, PID, QUEUE, WORDS};
+use crate::keys::{
+    HISTORY, KIND_CHECK, KIND_NONE, KIND_REC, KIND_SELF, KIND_SEND, KIND_SEQ, KIND_SPAWN, NEWEST,
+    PID, QUEUE, WORDS,
+};
 use crate::replies::write_number_line;
 use crate::writing::{past, write_bytes, write_gap, write_line_feed, write_name, write_words};
 use kinds::Kind;
@@ -15,15 +18,15 @@ fn kind_name(newest: Option<Kind>) -> &'static [u8]
     ensures { result.now ≡ newest_bytes newest }
 {
     let Some(kind) = newest else {
-        return b"none";
+        return &KIND_NONE;
     };
     match kind {
-        Kind::Seq => b"seq",
-        Kind::Send => b"send",
-        Kind::Rec => b"rec",
-        Kind::Spawn => b"spawn",
-        Kind::Own => b"self",
-        Kind::Check => b"check",
+        Kind::Seq => &KIND_SEQ,
+        Kind::Send => &KIND_SEND,
+        Kind::Rec => &KIND_REC,
+        Kind::Spawn => &KIND_SPAWN,
+        Kind::Own => &KIND_SELF,
+        Kind::Check => &KIND_CHECK,
     }
 }
 
