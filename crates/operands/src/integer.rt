@@ -1,5 +1,5 @@
-// The operators on 32-bit signed integers: a zero divisor, the least integer by -1 and a result out of range are found by the library's checked
-// operations, which then give nothing.
+// The operators on 32-bit signed integers: where there is no result, for a zero divisor, the least integer divided by -1 or a number out of range, the
+// library's checked operations and `rem` give nothing.
 ghost use Rattle.std.specs.Prelude.{◌≡◌};
 ghost use Rattle.std.specs.Int.Signed.{rem_z};
 ghost use Rattle.machine.specs.Operator.{divided};
