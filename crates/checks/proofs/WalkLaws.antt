@@ -194,6 +194,10 @@ onward_past b a o = o
 pub keeps_onward : {l : List ℕ} {at owed : ℕ} {marks : List Bool} {arities : List ℕ} {unique : Bool} {before after : List Bool} {a : ℕ} → Keeps l at owed marks arities unique before after (Ok a) → at ≤ a
 keeps_onward k = onward_past _ _ k.onward
 
+-- what a walk keeps, at the answer that was matched
+pub keeps_at : {l : List ℕ} {at owed : ℕ} {marks : List Bool} {arities : List ℕ} {unique : Bool} {before after : List Bool} {r r' : Result ℕ BadWord} → r ≡ r' → Keeps l at owed marks arities unique before after r → Keeps l at owed marks arities unique before after r'
+keeps_at {l} {at} {owed} {marks} {arities} {unique} {before} {after} e k = subst (Keeps l at owed marks arities unique before after) e k
+
 module _ (l : List ℕ) (at owed : ℕ) (marks : List Bool) (arities : List ℕ) (unique : Bool) (before : List Bool) where
   pub keep_none : owed ≡ 0 → Keeps l at owed marks arities unique before before (Ok at)
   unfolding Onward Agrees keeps_all words_of
